@@ -1,0 +1,4 @@
+pub mod Constants
+pub mod Order
+pub mod Scale
+pub mod Shift

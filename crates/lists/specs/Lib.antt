@@ -1,0 +1,5 @@
+pub mod Loops
+pub mod While
+pub mod Each
+pub mod Window
+pub mod Tests
