@@ -23,6 +23,10 @@ pub not-false : (a : Bool) → not a ≡ false → a ≡ true
 not-false true e = refl
 not-false false e = cc
 
+pub not-true : (a : Bool) → not a ≡ true → a ≡ false
+not-true true e = cc
+not-true false e = refl
+
 -- a && not b fails, and a holds
 pub but : (a b : Bool) → (a && not b) ≡ false → a ≡ true → b ≡ true
 but true true e h = refl

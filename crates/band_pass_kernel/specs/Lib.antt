@@ -1,0 +1,3 @@
+pub mod Kernel
+pub mod Resolve
+pub mod Facts
