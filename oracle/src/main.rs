@@ -1,0 +1,37 @@
+//! Prints lists of the oracle's answers, which the replay programs compare with the proved library's (docs/LISTS.md).
+//!
+//!     oracle NAME SEED COUNT > FILE
+#![allow(dead_code)]
+#![allow(clippy::all)]
+
+mod activity_profile;
+mod activity_scoring;
+mod hq_soft_clip;
+mod list;
+mod makings;
+mod minimal_genotyping;
+mod random;
+mod refusals;
+mod stand_ins;
+
+use stand_ins::{bio_ids, read_binding, read_model, read_projection};
+use std::io::Write;
+
+fn main() {
+    let words: Vec<String> = std::env::args().skip(1).collect();
+    let number = |i: usize| words.get(i).and_then(|w| w.parse::<u64>().ok());
+    let (Some(name), Some(seed), Some(count)) = (words.first(), number(1), number(2)) else {
+        eprintln!("usage: oracle elementary|kernel SEED COUNT > FILE");
+        std::process::exit(2);
+    };
+    let mut out = std::io::BufWriter::new(std::io::stdout().lock());
+    match name.as_str() {
+        "elementary" => makings::elementary_list(seed, count, &mut out),
+        "kernel" => makings::kernel_list(seed, count, &mut out),
+        _ => {
+            eprintln!("oracle: no list named {name}");
+            std::process::exit(2);
+        }
+    }
+    out.flush().expect("the list is written");
+}

@@ -1,0 +1,50 @@
+//! Document 01's ranges and refusals, put over the Rust, which has none of them or others.
+use crate::activity_profile::{BandPassActivityProfileParams, PositiveSigma};
+
+pub const SETTING: u64 = 1;
+pub const KERNEL_BUFFER: u64 = 2;
+
+pub const MAX_POSITION: u32 = 1_073_741_823;
+
+/// The settings of a making as they are handed in, before any check.
+#[derive(Clone, Copy)]
+pub struct Settings {
+    pub contig_len: u32,
+    pub distance: u32,
+    pub threshold: f64,
+    pub max_filter: u32,
+    pub sigma: f64,
+    pub adaptive: bool,
+}
+
+impl Settings {
+    pub fn in_range(&self) -> bool {
+        (1..=MAX_POSITION).contains(&self.contig_len)
+            && self.distance <= 1_000_000
+            && (0.0..=1.0).contains(&self.threshold)
+            && self.max_filter <= 500
+            && (1.0 / 64.0..=4096.0).contains(&self.sigma)
+    }
+
+    pub fn params(&self) -> BandPassActivityProfileParams {
+        BandPassActivityProfileParams {
+            max_prob_propagation_distance: self.distance,
+            active_prob_threshold: self.threshold,
+            max_filter_size: self.max_filter,
+            sigma: PositiveSigma::try_new(self.sigma).expect("a sigma in range is positive"),
+            adaptive_filter_size: self.adaptive,
+        }
+    }
+
+    /// The number of the refusal of a making with buffers of these lengths, or 0.
+    pub fn making_refusal(&self, full: usize, narrow: usize) -> u64 {
+        if !self.in_range() {
+            return SETTING;
+        }
+        let band = 2 * self.max_filter as usize + 1;
+        if full < band || narrow < band {
+            return KERNEL_BUFFER;
+        }
+        0
+    }
+}
