@@ -1,1 +1,10 @@
 pub mod Fresh
+pub mod Verdicts
+pub mod Facts
+pub mod Sizes
+pub mod Cuts
+pub mod Loci
+pub mod Steps
+pub mod Demand3
+pub mod Unbroken
+pub mod Draining
