@@ -13,6 +13,9 @@ pub enum Function {
     MakeGaussianKernel = 7,
     AdaptiveFilterSize = 8,
     Making = 9,
+    Add = 10,
+    Pop = 11,
+    Run = 12,
 }
 
 /// One answer: the function's number, how many words follow, and the words of the arguments and then of the results.

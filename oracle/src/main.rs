@@ -10,8 +10,10 @@ mod hq_soft_clip;
 mod list;
 mod makings;
 mod minimal_genotyping;
+mod paper;
 mod random;
 mod refusals;
+mod runs;
 mod stand_ins;
 
 use stand_ins::{bio_ids, read_binding, read_model, read_projection};
@@ -21,13 +23,15 @@ fn main() {
     let words: Vec<String> = std::env::args().skip(1).collect();
     let number = |i: usize| words.get(i).and_then(|w| w.parse::<u64>().ok());
     let (Some(name), Some(seed), Some(count)) = (words.first(), number(1), number(2)) else {
-        eprintln!("usage: oracle elementary|kernel SEED COUNT > FILE");
+        eprintln!("usage: oracle elementary|kernel|runs|calls SEED COUNT > FILE");
         std::process::exit(2);
     };
     let mut out = std::io::BufWriter::new(std::io::stdout().lock());
     match name.as_str() {
         "elementary" => makings::elementary_list(seed, count, &mut out),
         "kernel" => makings::kernel_list(seed, count, &mut out),
+        "runs" => runs::run_list(seed, count, &mut out),
+        "calls" => runs::call_list(seed, count, &mut out),
         _ => {
             eprintln!("oracle: no list named {name}");
             std::process::exit(2);

@@ -8,3 +8,6 @@ pub mod Steps
 pub mod Demand3
 pub mod Unbroken
 pub mod Draining
+pub mod Cases
+pub mod Adds
+pub mod Windows

@@ -5,3 +5,4 @@ pub mod Profile
 pub mod Add
 pub mod Pop
 pub mod Run
+pub mod Window

@@ -1,7 +1,10 @@
 // The band-pass activity profile: its record, and the making of one (the Rust's activity_profile.rs). No public function has a `requires`.
 //
 // The record goes in by value and comes back; the activity at each locus stands in cells that the caller lends.
+mod add;
 mod making;
+mod pop;
+mod record;
 
 use genome::GenomePosition;
 use genome::Refusal;

@@ -1,9 +1,13 @@
 // Lists of answers (docs/LISTS.md): reading one answer at a time, and comparing its results with others, bit for bit.
 // No public function has a `requires`.
+mod arrays;
 mod compare;
 mod read;
 mod words;
 
+pub use arrays::doubles_from;
+pub use arrays::filled;
+pub use arrays::length_at;
 pub use read::read_answer;
 pub use words::bits_of;
 pub use words::double_at;

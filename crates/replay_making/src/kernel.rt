@@ -3,10 +3,12 @@ use activity_profile::BandPassActivityProfile;
 use activity_profile::Made;
 use answer_list::Compared;
 use answer_list::double_at;
+use answer_list::doubles_from;
+use answer_list::filled;
+use answer_list::length_at;
 use answer_list::number_at;
 use answer_list::word_at;
 use band_pass_kernel::BandPassActivityProfileParams;
-ghost use Prim.Native.Nat.{_≤_};
 
 // mean, sd, x; the density.
 pub fn normal_distribution(words: &[u64]) -> bool {
@@ -98,7 +100,8 @@ fn profile<'a>(
         .doubles(words, kernel)
 }
 
-fn params_of(words: &[u64]) -> BandPassActivityProfileParams {
+// distance, threshold, max filter, sigma and adaptive, from word 2 on.
+pub fn params_of(words: &[u64]) -> BandPassActivityProfileParams {
     BandPassActivityProfileParams {
         max_prob_propagation_distance: number_at(words, 2),
         active_prob_threshold: double_at(words, 3),
@@ -106,37 +109,4 @@ fn params_of(words: &[u64]) -> BandPassActivityProfileParams {
         sigma: double_at(words, 5),
         adaptive_filter_size: word_at(words, 6) == 1,
     }
-}
-
-// A length that the program has room for; a longer one is cut, and the answer then differs.
-fn length_at(words: &[u64], i: usize) -> usize
-    ensures { λ r. ⌜ r ≤ 1024 ⌝ }
-{
-    let n = word_at(words, i);
-    if n <= 1024 {
-        return n as usize;
-    }
-    1024
-}
-
-// Entry i is the double whose bits are `first` + i.
-fn filled(first: u64) -> [f64; 1024] {
-    let mut buffer = [0.0f64; 1024];
-    let mut i = 0usize;
-    while i < 1024 {
-        buffer[i] = answer_list::double_of(std::num::wrapping_add_u64(first, i as u64));
-        i += 1;
-    }
-    buffer
-}
-
-// The doubles from word `at` on.
-fn doubles_from(words: &[u64], at: usize) -> [f64; 1024] {
-    let mut into = [0.0f64; 1024];
-    let mut i = 0usize;
-    while i < 1024 {
-        into[i] = double_at(words, std::num::wrapping_add_usize(at, i));
-        i += 1;
-    }
-    into
 }

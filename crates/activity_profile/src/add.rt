@@ -1,0 +1,268 @@
+// Document 01, 'Adding a locus'.
+use crate::ActivityEvidence;
+use crate::ActivityProfileState;
+use crate::Added;
+use crate::BandPassActivityProfile;
+use crate::record::greater;
+use crate::record::is_broken;
+use crate::record::lesser;
+use crate::record::monus;
+use genome::Refusal;
+ghost use mathlib.Core.Path.{_≡_};
+ghost use Prim.Native.Nat.{_+_, _-_, _≤_, _<_};
+ghost use lib.Dec.{ltb};
+ghost use lib.ListN.{length};
+ghost use Rattle.lists.specs.Each.{each};
+ghost use Rattle.activity_profile.specs.Verdict.{granted};
+ghost use Rattle.activity_profile.specs.Add.{at, superStates, times, weight, firstLocus, lowest, highest, needed, brokenAdd, otherContig, offContig, noActivity, notNext, addVerdict, addedProfile, addAnswerOf, addAnswerBy, addCellsBy, addAnswer, addCells};
+ghost use Rattle.activity_profile.specs.Window.{gained, lo, hi, off, held};
+
+impl BandPassActivityProfile {
+    // Adds the next locus to the profile, and what it spreads to the lent cells. The kernel is the one that the profile was made with, 2F + 1
+    // long. Each refusal, in document 01's order, leaves the cells as they were.
+    pub fn add(self, state: ActivityProfileState, kernel: &[f64], cells: &mut [f64]) -> Added
+        ensures { λ r. ⌜ addAnswerOf r ≡ addAnswer self (now (cells .entry)) (now (kernel .entry)) state ⌝ }
+        ensures { λ _. ⌜ now (cells .exit) ≡ addCells self (now (cells .entry)) (now (kernel .entry)) state ⌝ }
+    {
+        if is_broken_add(self, cells.len(), kernel.len()) {
+            return Added::Refused(Refusal::BrokenProfile, self);
+        }
+        if is_other_contig(self, state) {
+            return Added::Refused(Refusal::Contig, self);
+        }
+        if is_off_contig(self, state) {
+            return Added::Refused(Refusal::OffContig, self);
+        }
+        if is_no_activity(state) {
+            return Added::Refused(Refusal::Activity, self);
+        }
+        if is_not_next(self, state) {
+            return Added::Refused(Refusal::NotNext, self);
+        }
+        if lacks_cells(self, state, cells.len()) {
+            return Added::Refused(Refusal::Cells, self);
+        }
+        add_granted(self, state, kernel, cells)
+    }
+}
+
+// Refusal 5 of an add: the record is broken, or the kernel is not 2F + 1 long.
+fn is_broken_add(p: BandPassActivityProfile, cells: usize, kernel: usize) -> bool
+    ensures { λ r. ⌜ r ≡ brokenAdd p cells kernel ⌝ }
+{
+    let broken = is_broken(p, cells);
+    broken | !(kernel as u64 == 2 * (p.filter_size as u64) + 1)
+}
+
+// Refusal 6.
+fn is_other_contig(p: BandPassActivityProfile, s: ActivityProfileState) -> bool
+    ensures { λ r. ⌜ r ≡ otherContig p s ⌝ }
+{
+    !(s.contig == p.contig)
+}
+
+// Refusal 7.
+fn is_off_contig(p: BandPassActivityProfile, s: ActivityProfileState) -> bool
+    ensures { λ r. ⌜ r ≡ offContig p s ⌝ }
+{
+    let q = s.pos;
+    (q.0 == 0) | (p.contig_len < q.0)
+}
+
+// Refusal 8. A NaN is no probability.
+fn is_no_activity(s: ActivityProfileState) -> bool
+    ensures { λ r. ⌜ r ≡ noActivity s ⌝ }
+{
+    !genome::within_f64(0.0, s.active_prob, 1.0)
+}
+
+// Refusal 9.
+fn is_not_next(p: BandPassActivityProfile, s: ActivityProfileState) -> bool
+    ensures { λ r. ⌜ r ≡ notNext p s ⌝ }
+{
+    let q = s.pos;
+    (0 < p.count) & !(q.0 as u64 == p.last_input_pos as u64 + 1)
+}
+
+// Refusal 10.
+fn lacks_cells(p: BandPassActivityProfile, s: ActivityProfileState, cells: usize) -> bool
+    ensures { λ r. ⌜ r ≡ ltb cells (needed p s) ⌝ }
+{
+    let n = cells_needed(p, s);
+    (cells as u64) < n
+}
+
+// The add that is accepted: only the window's cells are lent on and written.
+fn add_granted(
+    p: BandPassActivityProfile,
+    s: ActivityProfileState,
+    kernel: &[f64],
+    cells: &mut [f64],
+) -> Added
+    requires { ⌜ addVerdict p (length (now cells)) (length (now kernel)) s ≡ granted ⌝ }
+    ensures { λ r. ⌜ addAnswerOf r ≡ addAnswerBy granted p s ⌝ }
+    ensures { λ _. ⌜ now (cells .exit) ≡ addCellsBy granted p (now (cells .entry)) (now (kernel .entry)) s ⌝ }
+{
+    let m = super_states(p, s);
+    let next = added_profile(p, s);
+    let w = window_of(p, s);
+    let begin = w.lo;
+    let end = w.hi;
+    spread(&mut cells[begin..end], kernel, s, m, w.off, w.held);
+    Added::Accepted(next)
+}
+
+// The number of super states: 1 for plain evidence; for clips, how many offsets d from -n to n, n the smaller of the clip count and D, have
+// p + d on the contig.
+fn super_states(p: BandPassActivityProfile, s: ActivityProfileState) -> u64
+    requires { ⌜ (1 ≤ at s) × (at s ≤ p .«contig_len») ⌝ }
+    ensures { λ r. ⌜ r ≡ superStates p (at s) (s .evidence) ⌝ }
+{
+    let e = s.evidence;
+    let q = s.pos;
+    match e {
+        ActivityEvidence::Plain => 1,
+        ActivityEvidence::HighQualitySoftClips { clip_bases } => {
+            let n = lesser(
+                clip_bases as u64,
+                p.max_prob_propagation_distance as u64 + p.filter_size as u64,
+            );
+            let low = greater(1, monus(q.0 as u64, n));
+            let high = lesser(p.contig_len as u64, q.0 as u64 + n);
+            high - low + 1
+        }
+    }
+}
+
+// The record after an accepted add.
+fn added_profile(p: BandPassActivityProfile, s: ActivityProfileState) -> BandPassActivityProfile
+    requires { ⌜ needed p s ≤ p .«contig_len» ⌝ }
+    ensures { λ r. ⌜ r ≡ addedProfile p s ⌝ }
+{
+    let q = s.pos;
+    let first = first_locus(p, s);
+    let count = cells_needed(p, s);
+    let mut next = p;
+    next.region_start = first;
+    next.last_input_pos = q.0;
+    next.count = count as u32;
+    next
+}
+
+// The cells in use after the add.
+fn cells_needed(p: BandPassActivityProfile, s: ActivityProfileState) -> u64
+    ensures { λ r. ⌜ r ≡ needed p s ⌝ }
+{
+    let first = first_locus(p, s);
+    let high = highest_of(p, s);
+    let reach = monus(high, first as u64);
+    greater(p.count as u64, reach + 1)
+}
+
+// The region start, first set to p where the count is 0.
+fn first_locus(p: BandPassActivityProfile, s: ActivityProfileState) -> u32
+    ensures { λ r. ⌜ r ≡ firstLocus p s ⌝ }
+{
+    let q = s.pos;
+    if p.count == 0 {
+        return q.0;
+    }
+    p.region_start
+}
+
+// The lowest position that receives.
+fn lowest_of(p: BandPassActivityProfile, s: ActivityProfileState) -> u64
+    ensures { λ r. ⌜ r ≡ lowest p s ⌝ }
+{
+    let q = s.pos;
+    if s.active_prob > 0.0 {
+        return greater(1, monus(q.0 as u64, p.filter_size as u64));
+    }
+    q.0 as u64
+}
+
+// The highest position that receives.
+fn highest_of(p: BandPassActivityProfile, s: ActivityProfileState) -> u64
+    ensures { λ r. ⌜ (r ≡ highest p s) × (r ≤ 4294967295) ⌝ }
+{
+    let q = s.pos;
+    if s.active_prob > 0.0 {
+        return lesser(p.contig_len as u64, q.0 as u64 + p.filter_size as u64);
+    }
+    q.0 as u64
+}
+
+// The stretch of the cells that receives, from lo up to hi, the kernel's entry at its front, and how many of its cells are held.
+struct Window {
+    lo: usize,
+    hi: usize,
+    off: usize,
+    held: usize,
+}
+
+fn window_of(p: BandPassActivityProfile, s: ActivityProfileState) -> Window
+    requires { ⌜ (firstLocus p s ≤ at s) × (lowest p s ≤ at s) × (at s ≤ lowest p s + p .«filter_size») × (at s ≤ highest p s) ⌝ }
+    ensures { λ r. ⌜ (r .lo ≡ lo p s) × (r .hi ≡ hi p s) × (r .off ≡ off p s) × (r .held ≡ held p s) ⌝ }
+{
+    let q = s.pos;
+    let first = first_locus(p, s) as u64;
+    let high = highest_of(p, s);
+    let lo = monus(lowest_of(p, s), first);
+    let held = monus(p.count as u64, lo);
+    let off = first + lo + p.filter_size as u64 - q.0 as u64;
+    Window {
+        lo: lo as usize,
+        hi: (high - first + 1) as usize,
+        off: off as usize,
+        held: held as usize,
+    }
+}
+
+// Each cell of the window receives its sum, from kernel[off] on: by one addition in the first `held` cells; from there on the sum becomes
+// the next new cell, whatever it held.
+fn spread(
+    window: &mut [f64],
+    kernel: &[f64],
+    s: ActivityProfileState,
+    m: u64,
+    off: usize,
+    held: usize,
+)
+    requires { ⌜ off + length (now window) ≤ length (now kernel) ⌝ }
+    ensures { λ _. ⌜ now (window .exit) ≡ each (gained (now (kernel .entry)) s m off held) (now (window .entry)) ⌝ }
+{
+    let mut i = 0;
+    while i < window.len() {
+        let w = times_of(m, weight_of(kernel, s, off + i));
+        if i < held {
+            window[i] = window[i] + w;
+        } else {
+            window[i] = w;
+        }
+        i += 1;
+    }
+}
+
+// probability × kernel[j]; or a probability that is not above 0, itself.
+fn weight_of(kernel: &[f64], s: ActivityProfileState, j: usize) -> f64
+    requires { ⌜ j < length (now kernel) ⌝ }
+    ensures { λ r. ⌜ r ≡ weight (now (kernel .entry)) s j ⌝ }
+{
+    if s.active_prob > 0.0 {
+        return s.active_prob * kernel[j];
+    }
+    s.active_prob
+}
+
+// w, added to itself m - 1 times, left to right.
+fn times_of(m: u64, w: f64) -> f64
+    ensures { λ r. ⌜ r ≡ times m w ⌝ }
+{
+    let mut sum = w;
+    let mut k = 1;
+    while k < m {
+        sum = sum + w;
+        k += 1;
+    }
+    sum
+}

@@ -1,0 +1,307 @@
+//! Answers of adds and pops: long lists of calls on one profile, run through the Rust, and single calls on records and cells of any content.
+use crate::activity_profile::{ActivityEvidence, ActivityProfileState, BandPassActivityProfile};
+use crate::list::{Answer, Function};
+use crate::paper::{self, Popped, Record, Region, Sizes, State};
+use crate::random::Random;
+use crate::refusals::Settings;
+use std::io::Write;
+
+/// The Rust's profile beside the cells that document 01 speaks of.
+struct Rust {
+    profile: BandPassActivityProfile,
+    cells: Vec<f64>,
+}
+
+impl Rust {
+    fn add(&mut self, s: State) {
+        let evidence = s.clips.map_or(ActivityEvidence::Plain, |clip_bases| ActivityEvidence::HighQualitySoftClips { clip_bases });
+        let state = ActivityProfileState {
+            contig: s.contig.to_string().into(),
+            pos: s.pos.into(),
+            active_prob: s.probability,
+            original_active_prob: s.original,
+            evidence,
+        };
+        self.profile.add(state).expect("an add that document 01 accepts is accepted by the Rust");
+        self.read_cells();
+    }
+
+    fn pop(&mut self, sizes: Sizes) -> Option<Region> {
+        let held = self.profile.len();
+        let popped = self
+            .profile
+            .try_pop_next_ready_region(sizes.extension, sizes.min, sizes.max, sizes.forced)
+            .expect("sizes of at least 1 are accepted by the Rust")?;
+        self.cells[..held].fill(0.0);
+        self.read_cells();
+        Some(Region {
+            contig: popped.contig.parse().expect("the contig is a number"),
+            start: popped.start as u32,
+            end: popped.end as u32,
+            active: popped.is_active,
+            padded_start: popped.padded_start as u32,
+            padded_end: popped.padded_end as u32,
+            extension: popped.extension,
+        })
+    }
+
+    fn read_cells(&mut self) {
+        for (cell, state) in self.cells.iter_mut().zip(self.profile.states()) {
+            *cell = state.active_prob;
+        }
+    }
+
+    /// The Rust's state is what document 01's rules gave.
+    fn agree(&self, record: &Record, cells: &[f64]) {
+        assert_eq!(self.profile.region_start().unwrap_or(0), u64::from(record.start));
+        assert_eq!(self.profile.last_input_pos().unwrap_or(0), u64::from(record.last));
+        assert_eq!(self.profile.len(), record.count as usize);
+        let bits = |xs: &[f64]| xs.iter().map(|x| x.to_bits()).collect::<Vec<_>>();
+        assert_eq!(bits(&self.cells), bits(cells));
+    }
+}
+
+fn state_words(answer: Answer, s: State) -> Answer {
+    answer
+        .word(s.contig.into())
+        .word(s.pos.into())
+        .double(s.probability)
+        .double(s.original)
+        .word(s.clips.map_or(0, |c| u64::from(c) + 1))
+}
+
+fn sizes_words(answer: Answer, s: Sizes) -> Answer {
+    answer.word(s.extension.into()).word(s.min.into()).word(s.max.into()).word(s.forced.into())
+}
+
+/// 0 and the region; 1, held; 2, empty; 3 and the refusal's number.
+fn popped_words(answer: Answer, p: Popped) -> Answer {
+    match p {
+        Popped::Region(r) => answer
+            .word(0)
+            .word(r.contig.into())
+            .word(r.start.into())
+            .word(r.end.into())
+            .word(r.active.into())
+            .word(r.padded_start.into())
+            .word(r.padded_end.into())
+            .word(r.extension.into()),
+        Popped::Held => answer.word(1),
+        Popped::Empty => answer.word(2),
+        Popped::Refused(n) => answer.word(3).word(n),
+    }
+}
+
+fn record_words(answer: Answer, r: &Record) -> Answer {
+    answer
+        .word(r.contig.into())
+        .word(r.contig_len.into())
+        .word(r.distance.into())
+        .double(r.threshold)
+        .word(r.filter.into())
+        .word(r.start.into())
+        .word(r.last.into())
+        .word(r.count.into())
+}
+
+// ---- lists of calls on one profile
+
+fn some_state(r: &mut Random, record: &Record) -> State {
+    let next = if record.count == 0 { 1 + r.below(6) as u32 } else { record.last + 1 };
+    let pos = match r.below(24) {
+        0 => 0,
+        1 => record.contig_len + 1,
+        2 => next.wrapping_add(1),
+        3 => r.below(u64::from(record.contig_len) + 2) as u32,
+        _ => next,
+    };
+    State {
+        contig: if r.chance(40) { record.contig + 1 } else { record.contig },
+        pos,
+        probability: match r.below(14) {
+            0 => 1.0,
+            1 => -0.0,
+            2..=5 => 0.0,
+            6 => 1e-300,
+            7 => r.pick(&[1.5, -0.25, f64::NAN]),
+            _ => (r.below(11) as f64) / 10.0,
+        },
+        original: r.pick(&[0.0, 0.5, f64::NAN]),
+        clips: if r.chance(4) { Some(r.pick(&[0, 1, 2, 3, 7, 1000, u32::MAX])) } else { None },
+    }
+}
+
+fn some_sizes(r: &mut Random) -> Sizes {
+    let max = r.pick(&[1, 2, 3, 4, 6]);
+    Sizes {
+        extension: r.pick(&[0, 1, 3, u32::MAX]),
+        min: if r.chance(30) { 0 } else { r.pick(&[1, 1, 2, 3, 9, u32::MAX]) },
+        max: if r.chance(30) { 0 } else { max },
+        forced: r.chance(5),
+    }
+}
+
+/// One run: a making, then calls, each with the record and all cells after it.
+fn run(r: &mut Random, calls: u64, out: &mut impl Write) {
+    let s = Settings {
+        contig_len: r.pick(&[1, 5, 9, 30, 1000]),
+        distance: r.pick(&[0, 1, 2, 4]),
+        threshold: r.pick(&[0.0, 0.05, 0.3, 1.0]),
+        max_filter: r.pick(&[0, 1, 2, 3]),
+        sigma: r.pick(&[0.3, 1.0, 17.0]),
+        adaptive: r.chance(2),
+    };
+    let n = r.pick(&[3, 8, 12, 16]);
+    let fill = 0x3fd0_0000_0000_0000 + r.below(1 << 16);
+    let contig = r.below(100) as u32;
+    let (filter, kernel) = s.params().resolved_filter_and_kernel();
+    let mut record =
+        Record { contig, contig_len: s.contig_len, distance: s.distance, threshold: s.threshold, filter, start: 0, last: 0, count: 0 };
+    let mut cells: Vec<f64> = (0..n as u64).map(|i| f64::from_bits(fill + i)).collect();
+    let mut rust =
+        Rust { profile: BandPassActivityProfile::new(contig.to_string(), s.contig_len.into(), s.params()), cells: cells.clone() };
+    let mut answer = Answer::of(Function::Run)
+        .word(contig.into())
+        .word(s.contig_len.into())
+        .word(s.distance.into())
+        .double(s.threshold)
+        .word(s.max_filter.into())
+        .double(s.sigma)
+        .word(s.adaptive.into())
+        .word(fill)
+        .word(n as u64)
+        .word(calls);
+    for _ in 0..calls {
+        if r.chance(3) {
+            let sizes = some_sizes(r);
+            answer = sizes_words(answer.word(1), sizes);
+            let popped = paper::pop(&mut record, sizes, &mut cells);
+            match popped {
+                Popped::Region(region) => assert_eq!(rust.pop(sizes), Some(region)),
+                Popped::Held | Popped::Empty => assert_eq!(rust.pop(sizes), None),
+                Popped::Refused(_) => {}
+            }
+            answer = popped_words(answer, popped);
+        } else {
+            let s = some_state(r, &record);
+            answer = state_words(answer.word(0), s);
+            let refusal = paper::add(&mut record, s, &kernel, &mut cells);
+            if refusal == 0 {
+                rust.add(s);
+            }
+            answer = answer.word(refusal);
+        }
+        rust.agree(&record, &cells);
+        answer = answer.word(record.start.into()).word(record.last.into()).word(record.count.into()).elements(&cells);
+    }
+    answer.write(out);
+}
+
+pub fn run_list(seed: u64, count: u64, out: &mut impl Write) {
+    let mut r = Random::from_seed(seed);
+    for _ in 0..count {
+        run(&mut r, 100, out);
+    }
+}
+
+// ---- single calls on records and cells of any content
+
+fn any_cell(r: &mut Random) -> f64 {
+    match r.below(12) {
+        0 => f64::NAN,
+        1 => f64::INFINITY,
+        2 => f64::NEG_INFINITY,
+        3 => -0.0,
+        4 => f64::MAX,
+        5 => 0.0,
+        6 => r.any_double(),
+        _ => (r.below(11) as f64) / 10.0,
+    }
+}
+
+/// A record that holds loci as it has to, or one number of which was changed.
+fn any_record(r: &mut Random, n: usize) -> Record {
+    let filter = r.below(4) as u32;
+    let contig_len = r.pick(&[6, 20, 1_073_741_823]);
+    let count = r.below(n as u64 + 1).min(u64::from(contig_len)) as u32;
+    let mut record = Record {
+        contig: 1,
+        contig_len,
+        distance: r.pick(&[0, 1, 2, 1_000_000]),
+        threshold: r.pick(&[0.0, 0.05, 0.5, 1.0]),
+        filter,
+        start: 0,
+        last: 0,
+        count,
+    };
+    if count > 0 {
+        record.start = 1 + r.pick(&[0, 1, contig_len - count]).min(contig_len - count);
+        let end = record.start + count - 1;
+        record.last = end.saturating_sub(r.below(u64::from(filter) + 1) as u32).max(record.start.saturating_sub(1)).max(1);
+    }
+    if r.chance(3) {
+        let big = r.pick(&[0, 1, u32::MAX, u32::MAX - 1, 1 << 31, 7]);
+        match r.below(7) {
+            0 => record.start = big,
+            1 => record.last = big,
+            2 => record.count = big,
+            3 => record.filter = r.pick(&[0, 1, 501, u32::MAX]),
+            4 => record.distance = r.pick(&[1_000_001, u32::MAX]),
+            5 => record.threshold = r.pick(&[-0.5, 1.5, f64::NAN, -0.0]),
+            _ => record.contig_len = r.pick(&[0, 1, 1_073_741_824, u32::MAX]),
+        }
+    }
+    record
+}
+
+fn single_add(r: &mut Random, out: &mut impl Write) {
+    let n = r.below(9) as usize;
+    let mut record = any_record(r, n);
+    let mut cells: Vec<f64> = (0..n).map(|_| any_cell(r)).collect();
+    let k = if r.chance(12) { r.below(9) as usize } else { 2 * record.filter.min(3) as usize + 1 };
+    let kernel: Vec<f64> = (0..k).map(|_| any_cell(r)).collect();
+    let mut s = some_state(r, &Record { contig_len: record.contig_len.min(1 << 30), last: record.last.min(1 << 30), ..record });
+    if r.chance(20) {
+        s.pos = u32::MAX;
+    }
+    let answer = record_words(Answer::of(Function::Add), &record);
+    let answer = state_words(answer, s).doubles(&kernel).doubles(&cells);
+    let refusal = paper::add(&mut record, s, &kernel, &mut cells);
+    record_words(answer.word(refusal), &record).elements(&cells).write(out);
+}
+
+fn single_pop(r: &mut Random, out: &mut impl Write) {
+    let n = r.below(9) as usize;
+    let mut record = any_record(r, n);
+    let mut cells: Vec<f64> = (0..n).map(|_| any_cell(r)).collect();
+    let mut sizes = some_sizes(r);
+    sizes.forced = r.chance(2);
+    if r.chance(20) {
+        sizes.max = u32::MAX;
+    }
+    let answer = record_words(Answer::of(Function::Pop), &record);
+    let answer = sizes_words(answer, sizes).doubles(&cells);
+    let popped = paper::pop(&mut record, sizes, &mut cells);
+    record_words(popped_words(answer, popped), &record).elements(&cells).write(out);
+}
+
+/// READINGS' example: where cells hold what no add leaves, document 01 decides and not the Rust's start from f64::MAX.
+fn cut_at_max(out: &mut impl Write) {
+    let mut record =
+        Record { contig: 1, contig_len: 100, distance: 1, threshold: 0.05, filter: 0, start: 1, last: 5, count: 5 };
+    let mut cells = vec![0.9, f64::INFINITY, f64::MAX, f64::INFINITY, 0.9];
+    let sizes = Sizes { extension: 0, min: 2, max: 4, forced: false };
+    let answer = record_words(Answer::of(Function::Pop), &record);
+    let answer = sizes_words(answer, sizes).doubles(&cells);
+    let popped = paper::pop(&mut record, sizes, &mut cells);
+    record_words(popped_words(answer, popped), &record).elements(&cells).write(out);
+}
+
+pub fn call_list(seed: u64, count: u64, out: &mut impl Write) {
+    let mut r = Random::from_seed(seed);
+    cut_at_max(out);
+    for _ in 0..count {
+        single_add(&mut r, out);
+        single_pop(&mut r, out);
+    }
+}
