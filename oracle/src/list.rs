@@ -16,6 +16,7 @@ pub enum Function {
     Add = 10,
     Pop = 11,
     Run = 12,
+    ClipCount = 13,
 }
 
 /// One answer: the function's number, how many words follow, and the words of the arguments and then of the results.

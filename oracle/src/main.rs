@@ -6,11 +6,12 @@
 
 mod activity_profile;
 mod activity_scoring;
+mod clips;
+mod document;
 mod hq_soft_clip;
 mod list;
 mod makings;
 mod minimal_genotyping;
-mod paper;
 mod random;
 mod refusals;
 mod runs;
@@ -23,7 +24,7 @@ fn main() {
     let words: Vec<String> = std::env::args().skip(1).collect();
     let number = |i: usize| words.get(i).and_then(|w| w.parse::<u64>().ok());
     let (Some(name), Some(seed), Some(count)) = (words.first(), number(1), number(2)) else {
-        eprintln!("usage: oracle elementary|kernel|runs|calls SEED COUNT > FILE");
+        eprintln!("usage: oracle elementary|kernel|runs|calls|clips SEED COUNT > FILE");
         std::process::exit(2);
     };
     let mut out = std::io::BufWriter::new(std::io::stdout().lock());
@@ -32,6 +33,7 @@ fn main() {
         "kernel" => makings::kernel_list(seed, count, &mut out),
         "runs" => runs::run_list(seed, count, &mut out),
         "calls" => runs::call_list(seed, count, &mut out),
+        "clips" => clips::clip_list(seed, count, &mut out),
         _ => {
             eprintln!("oracle: no list named {name}");
             std::process::exit(2);

@@ -1,7 +1,7 @@
 //! Answers of adds and pops: long lists of calls on one profile, run through the Rust, and single calls on records and cells of any content.
 use crate::activity_profile::{ActivityEvidence, ActivityProfileState, BandPassActivityProfile};
 use crate::list::{Answer, Function};
-use crate::paper::{self, Popped, Record, Region, Sizes, State};
+use crate::document::{self, Popped, Record, Region, Sizes, State};
 use crate::random::Random;
 use crate::refusals::Settings;
 use std::io::Write;
@@ -144,7 +144,7 @@ fn some_sizes(r: &mut Random) -> Sizes {
 /// One run: a making, then calls, each with the record and all cells after it.
 fn run(r: &mut Random, calls: u64, out: &mut impl Write) {
     let s = Settings {
-        contig_len: r.pick(&[1, 5, 9, 30, 1000]),
+        contig_len: r.pick(&[1, 9, 40, 1000, 1000, 1000, 1000]),
         distance: r.pick(&[0, 1, 2, 4]),
         threshold: r.pick(&[0.0, 0.05, 0.3, 1.0]),
         max_filter: r.pick(&[0, 1, 2, 3]),
@@ -175,7 +175,7 @@ fn run(r: &mut Random, calls: u64, out: &mut impl Write) {
         if r.chance(3) {
             let sizes = some_sizes(r);
             answer = sizes_words(answer.word(1), sizes);
-            let popped = paper::pop(&mut record, sizes, &mut cells);
+            let popped = document::pop(&mut record, sizes, &mut cells);
             match popped {
                 Popped::Region(region) => assert_eq!(rust.pop(sizes), Some(region)),
                 Popped::Held | Popped::Empty => assert_eq!(rust.pop(sizes), None),
@@ -185,7 +185,7 @@ fn run(r: &mut Random, calls: u64, out: &mut impl Write) {
         } else {
             let s = some_state(r, &record);
             answer = state_words(answer.word(0), s);
-            let refusal = paper::add(&mut record, s, &kernel, &mut cells);
+            let refusal = document::add(&mut record, s, &kernel, &mut cells);
             if refusal == 0 {
                 rust.add(s);
             }
@@ -266,7 +266,7 @@ fn single_add(r: &mut Random, out: &mut impl Write) {
     }
     let answer = record_words(Answer::of(Function::Add), &record);
     let answer = state_words(answer, s).doubles(&kernel).doubles(&cells);
-    let refusal = paper::add(&mut record, s, &kernel, &mut cells);
+    let refusal = document::add(&mut record, s, &kernel, &mut cells);
     record_words(answer.word(refusal), &record).elements(&cells).write(out);
 }
 
@@ -281,11 +281,11 @@ fn single_pop(r: &mut Random, out: &mut impl Write) {
     }
     let answer = record_words(Answer::of(Function::Pop), &record);
     let answer = sizes_words(answer, sizes).doubles(&cells);
-    let popped = paper::pop(&mut record, sizes, &mut cells);
+    let popped = document::pop(&mut record, sizes, &mut cells);
     record_words(popped_words(answer, popped), &record).elements(&cells).write(out);
 }
 
-/// READINGS' example: where cells hold what no add leaves, document 01 decides and not the Rust's start from f64::MAX.
+/// Where cells hold what no add leaves, document 01 decides and not the Rust's start from f64::MAX.
 fn cut_at_max(out: &mut impl Write) {
     let mut record =
         Record { contig: 1, contig_len: 100, distance: 1, threshold: 0.05, filter: 0, start: 1, last: 5, count: 5 };
@@ -293,7 +293,7 @@ fn cut_at_max(out: &mut impl Write) {
     let sizes = Sizes { extension: 0, min: 2, max: 4, forced: false };
     let answer = record_words(Answer::of(Function::Pop), &record);
     let answer = sizes_words(answer, sizes).doubles(&cells);
-    let popped = paper::pop(&mut record, sizes, &mut cells);
+    let popped = document::pop(&mut record, sizes, &mut cells);
     record_words(popped_words(answer, popped), &record).elements(&cells).write(out);
 }
 

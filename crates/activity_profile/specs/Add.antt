@@ -20,7 +20,7 @@ use Rattle.activity_profile.specs.Loci.{from, cell}
 use Rattle.activity_profile.specs.Verdict.{Verdict, refusal, granted}
 use Rattle.activity_profile.specs.Profile.{D, holding, broken}
 
--- the paper's p
+-- document 01's p
 abbrev pub at : ActivityProfileState → ℕ
 at s = s .pos .0
 

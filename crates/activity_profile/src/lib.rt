@@ -1,4 +1,5 @@
-// The band-pass activity profile: its record, and the making of one (the Rust's activity_profile.rs). No public function has a `requires`.
+// The band-pass activity profile: its record, making one, adding a locus and popping a region (the Rust's activity_profile.rs). No public
+// function has a `requires`.
 //
 // The record goes in by value and comes back; the activity at each locus stands in cells that the caller lends.
 mod add;

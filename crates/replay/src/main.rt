@@ -5,8 +5,8 @@ use libc::STDOUT_FILENO;
 ghost use Prim.Native.Nat.{_≤_};
 
 fn main() {
-    let mut asked = [0u64; 13];
-    let mut agreed = [0u64; 13];
+    let mut asked = [0u64; 14];
+    let mut agreed = [0u64; 14];
     let count = os::arg_count();
     let mut i = 1;
     while i < count {
@@ -17,7 +17,7 @@ fn main() {
 }
 
 // Replays the file that argument i names.
-fn replay_file(i: usize, asked: &mut [u64; 13], agreed: &mut [u64; 13]) {
+fn replay_file(i: usize, asked: &mut [u64; 14], agreed: &mut [u64; 14]) {
     let mut name = [0u8; 256];
     let n = os::arg(i, &mut name);
     let fd = os::open_read(&name[..n]);
@@ -31,7 +31,7 @@ fn replay_file(i: usize, asked: &mut [u64; 13], agreed: &mut [u64; 13]) {
 }
 
 // Replays the answers of a list to its end.
-fn replay_list(fd: i32, words: &mut [u64], asked: &mut [u64; 13], agreed: &mut [u64; 13]) {
+fn replay_list(fd: i32, words: &mut [u64], asked: &mut [u64; 14], agreed: &mut [u64; 14]) {
     let mut budget = 1000000000u64;
     while budget > 0 {
         if !replay_next(fd, words, asked, agreed) {
@@ -42,7 +42,7 @@ fn replay_list(fd: i32, words: &mut [u64], asked: &mut [u64; 13], agreed: &mut [
 }
 
 // Replays the next answer; false at the end. A list that ends within an answer counts as one that differs.
-fn replay_next(fd: i32, words: &mut [u64], asked: &mut [u64; 13], agreed: &mut [u64; 13]) -> bool {
+fn replay_next(fd: i32, words: &mut [u64], asked: &mut [u64; 14], agreed: &mut [u64; 14]) -> bool {
     let answer = answer_list::read_answer(fd, words);
     match answer {
         Answer::Words { function, count } => {
@@ -60,17 +60,17 @@ fn replay_next(fd: i32, words: &mut [u64], asked: &mut [u64; 13], agreed: &mut [
 
 // The place of a function in the tallies; 0 is for answers of no function here.
 fn index_of(function: u64) -> usize
-    ensures { λ r. ⌜ r ≤ 12 ⌝ }
+    ensures { λ r. ⌜ r ≤ 13 ⌝ }
 {
-    if function <= 12 {
+    if function <= 13 {
         return function as usize;
     }
     0
 }
 
 // Counts an answer.
-fn tally(at: usize, same: bool, asked: &mut [u64; 13], agreed: &mut [u64; 13])
-    requires { ⌜ at ≤ 12 ⌝ }
+fn tally(at: usize, same: bool, asked: &mut [u64; 14], agreed: &mut [u64; 14])
+    requires { ⌜ at ≤ 13 ⌝ }
 {
     asked[at] = std::num::wrapping_add_u64(asked[at], 1);
     if same {
@@ -83,11 +83,14 @@ fn replay(function: u64, words: &[u64]) -> bool {
     if function <= 9 {
         return replay_making::replay(function, words);
     }
-    replay_profile::replay(function, words)
+    if function <= 12 {
+        return replay_profile::replay(function, words);
+    }
+    replay_scoring::replay(function, words)
 }
 
 // A line for each function that the lists had.
-fn report(asked: &[u64; 13], agreed: &[u64; 13]) {
+fn report(asked: &[u64; 14], agreed: &[u64; 14]) {
     line(b"exp", asked[1], agreed[1]);
     line(b"ln", asked[2], agreed[2]);
     line(b"log10", asked[3], agreed[3]);
@@ -100,6 +103,7 @@ fn report(asked: &[u64; 13], agreed: &[u64; 13]) {
     line(b"add", asked[10], agreed[10]);
     line(b"pop", asked[11], agreed[11]);
     line(b"run", asked[12], agreed[12]);
+    line(b"clip count", asked[13], agreed[13]);
     line(b"unknown or malformed", asked[0], agreed[0]);
 }
 

@@ -1,17 +1,19 @@
--- P1 to P10 of document 01, against the definitions. Assumes nothing.
+-- P1 to P10 and P15 of document 01, against the definitions. Assumes nothing.
 use mathlib.Core.Path.{_≡_, refl}
 use mathlib.Core.Bool.{Bool, true, false}
 use mathlib.Core.List.{List, [], _∷_, map}
-use Prim.Native.Nat.{ℕ, _<_}
+use Prim.Native.Nat.{ℕ, _+_, _*_, _<_}
 use lib.ListN.{length}
 use lib.Ieee.{Float, binary64, round, ofBits, lt, le}
 use Rattle.lists.specs.Each.{each, upTo}
-use Rattle.lists.specs.Loops.{down, firstAt}
+use Rattle.lists.specs.Loops.{down, firstAt, foldl}
 use Rattle.activity_profile.specs.declared.BandPassActivityProfile.{BandPassActivityProfile}
 use Rattle.activity_profile.specs.declared.ActivityEvidence.the-variants.{HighQualitySoftClips}
 use Rattle.activity_profile.specs.Profile.{settingsInRange, placed, broken}
 use Rattle.activity_profile.specs.Add.{superStates}
 use Rattle.activity_profile.specs.Pop.{PopAnswer, refusedPop, emptyPop, heldPop, regionPop, popAnswer, popAnswerBy, popVerdict, turn, kept, qualifies, beats, replaces, better, bestCutSite, orMost, sizeOf, popSize, regionOf, rest}
+use Rattle.genome.specs.Refusals.{Outcome, refused, answered}
+use Rattle.hq_soft_clip.specs.SoftClips.{clipCount, countHigh, walked}
 use Rattle.worked_examples.specs.Rows.{Row, same, allRight, rowAt, each-row}
 
 -- n tenths: the double nearest to that
@@ -40,13 +42,18 @@ told (emptyPop p) = 1 ∷ []
 told (heldPop p) = 2 ∷ []
 told (regionPop r p) = 3 ∷ r .start ∷ r .end ∷ []
 
+-- 0 and the refusal's number, or 1 and the number answered
+numbered : Outcome ℕ → List ℕ
+numbered (refused n) = 0 ∷ n ∷ []
+numbered (answered n) = 1 ∷ n ∷ []
+
 -- cells in tenths; "max 4, min 2, distance 1, F 0, .., start 1, last input at the last cell"
 popOf : List ℕ → ℕ → Bool → List ℕ
 unfolding told popAnswer tenths profile
 popOf cells least forced = told (popAnswer (profile 1 0 1 (length cells) (length cells)) (map tenths cells) 0 least 4 forced)
 
 pub table : List Row
-unfolding popOf told popAnswer tenths profile superStates kept
+unfolding popOf told popAnswer tenths profile superStates kept numbered clipCount
 table =
     record { number = 1; given = popOf (9 ∷ 5 ∷ 2 ∷ 5 ∷ 9 ∷ []) 2 false; wanted = 3 ∷ 1 ∷ 3 ∷ [] }
     ∷ record { number = 2; given = popOf (9 ∷ 2 ∷ 5 ∷ 2 ∷ 9 ∷ []) 2 false; wanted = 3 ∷ 1 ∷ 4 ∷ [] }
@@ -72,11 +79,12 @@ table =
       }) 1 (HighQualitySoftClips 3) ∷ [];
       wanted = 3 ∷ [];
     }
+    ∷ record { number = 15; given = numbered (clipCount ((3 * 16 + 4) ∷ (2 * 16 + 0) ∷ []) (28 ∷ 29 ∷ 30 ∷ 40 ∷ 40 ∷ [])); wanted = 1 ∷ 2 ∷ [] }
     ∷ []
 
 -- the one proof
 pub table-right : allRight table ≡ true
-unfolding table allRight same popOf told tenths profile popAnswer popAnswerBy popVerdict turn kept broken settingsInRange placed qualifies beats replaces better bestCutSite orMost sizeOf popSize regionOf rest superStates down firstAt each upTo lt le ofBits round
+unfolding table allRight same popOf told tenths profile popAnswer popAnswerBy popVerdict turn kept broken settingsInRange placed qualifies beats replaces better bestCutSite orMost sizeOf popSize regionOf rest superStates numbered clipCount countHigh walked foldl down firstAt each upTo lt le ofBits round
 table-right = refl
 
 -- every row

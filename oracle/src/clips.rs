@@ -1,0 +1,70 @@
+//! Answers of the soft-clip count: the Rust's, under document 01's refusal of operations that SAM does not have.
+use crate::hq_soft_clip::count_high_quality_soft_clip_bases_rcm;
+use crate::list::{Answer, Function};
+use crate::random::Random;
+use rust_htslib::bam::record::Cigar;
+use rust_htslib::bam::Record;
+use std::io::Write;
+
+/// The SAM operation of a CIGAR word, or none.
+fn operation(word: u32) -> Option<Cigar> {
+    let n = word >> 4;
+    match word & 15 {
+        0 => Some(Cigar::Match(n)),
+        1 => Some(Cigar::Ins(n)),
+        2 => Some(Cigar::Del(n)),
+        3 => Some(Cigar::RefSkip(n)),
+        4 => Some(Cigar::SoftClip(n)),
+        5 => Some(Cigar::HardClip(n)),
+        6 => Some(Cigar::Pad(n)),
+        7 => Some(Cigar::Equal(n)),
+        8 => Some(Cigar::Diff(n)),
+        _ => None,
+    }
+}
+
+fn clip_answer(cigar: &[u32], qual: &[u8], out: &mut impl Write) {
+    let mut answer = Answer::of(Function::ClipCount).word(cigar.len() as u64);
+    for &word in cigar {
+        answer = answer.word(word.into());
+    }
+    answer = answer.word(qual.len() as u64);
+    for &q in qual {
+        answer = answer.word(q.into());
+    }
+    let operations: Option<Vec<Cigar>> = cigar.iter().map(|&word| operation(word)).collect();
+    answer = match operations {
+        None => answer.word(3),
+        Some(cigar) => {
+            let record = Record { cigar, qual: qual.to_vec() };
+            answer.word(0).word(count_high_quality_soft_clip_bases_rcm(&record).into())
+        }
+    };
+    answer.write(out);
+}
+
+pub fn clip_list(seed: u64, count: u64, out: &mut impl Write) {
+    let mut r = Random::from_seed(seed);
+    // P15, no words, no qualities, each operation alone, with a length of 0, and with one past the qualities
+    clip_answer(&[3 << 4 | 4, 2 << 4], &[28, 29, 30, 40, 40], out);
+    clip_answer(&[], &[40, 40], out);
+    clip_answer(&[3 << 4 | 4], &[], out);
+    for op in 0..16 {
+        for n in [0, 1, 5, 1 << 20] {
+            clip_answer(&[n << 4 | op, 2 << 4 | 4], &[40, 40, 40], out);
+            clip_answer(&[n << 4 | op], &[], out);
+        }
+    }
+    for _ in 0..count {
+        let words = r.below(7);
+        let cigar: Vec<u32> = (0..words)
+            .map(|_| {
+                let op = if r.chance(60) { 9 + r.below(7) } else { r.pick(&[0, 1, 2, 3, 4, 4, 4, 5, 6, 7, 8]) } as u32;
+                let n = if r.chance(30) { r.below(1 << 12) } else { r.below(6) } as u32;
+                n << 4 | op
+            })
+            .collect();
+        let qual: Vec<u8> = (0..r.below(16)).map(|_| r.pick(&[0, 2, 20, 27, 28, 29, 30, 40, 93, 254, 255])).collect();
+        clip_answer(&cigar, &qual, out);
+    }
+}
