@@ -55,13 +55,13 @@ whole-not p n w = go (p .count) refl
 -- ---- an add that is accepted
 
 -- the window, as numbers
-record First (p : BandPassActivityProfile) (s : ActivityProfileState) (first : ℕ) : Type 0 where
-  low : 1 ≤ first
-  high : first ≤ at s
-  old-on : first + p .count ≤ suc (p .«contig_len»)
-  old-near : first + p .count ≤ suc (at s + p .«filter_size»)
+pub record First (p : BandPassActivityProfile) (s : ActivityProfileState) (first : ℕ) : Type 0 where
+  pub low : 1 ≤ first
+  pub high : first ≤ at s
+  pub old-on : first + p .count ≤ suc (p .«contig_len»)
+  pub old-near : first + p .count ≤ suc (at s + p .«filter_size»)
 
-first-is : (p : BandPassActivityProfile) (n : ℕ) (s : ActivityProfileState) → Accepted p n s → First p s (firstLocus p s)
+pub first-is : (p : BandPassActivityProfile) (n : ℕ) (s : ActivityProfileState) → Accepted p n s → First p s (firstLocus p s)
 unfolding firstLocus
 first-is p n s a = go (eqb (p .count) 0) refl
   where
@@ -74,12 +74,12 @@ first-is p n s a = go (eqb (p .count) 0) refl
         let q = a .next h in
         omega arith
 
-record High (p : BandPassActivityProfile) (s : ActivityProfileState) (high : ℕ) : Type 0 where
-  at-high : at s ≤ high
-  high-on : high ≤ p .«contig_len»
-  high-near : high ≤ at s + p .«filter_size»
+pub record High (p : BandPassActivityProfile) (s : ActivityProfileState) (high : ℕ) : Type 0 where
+  pub at-high : at s ≤ high
+  pub high-on : high ≤ p .«contig_len»
+  pub high-near : high ≤ at s + p .«filter_size»
 
-high-is : (p : BandPassActivityProfile) (n : ℕ) (s : ActivityProfileState) → Accepted p n s → High p s (highest p s)
+pub high-is : (p : BandPassActivityProfile) (n : ℕ) (s : ActivityProfileState) → Accepted p n s → High p s (highest p s)
 unfolding highest
 high-is p n s a = go (spreads s)
   where

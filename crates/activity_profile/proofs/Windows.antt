@@ -1,24 +1,25 @@
 -- The window that an accepted add writes, and that its cells are those of the definition. Assumes nothing.
-use Prim.Native.Nat.{ℕ, zero, suc, _+_, _-_, _*_, _≤_, _<_, min, max}
-use mathlib.Core.Path.{_≡_, refl, sym, ap, _∙_}
-use mathlib.Core.Bool.{Bool, true, false, _&&_, cond}
+use Prim.Native.Nat.{ℕ, zero, suc, _+_, _-_, _*_, _≤_, _<_, max}
+use mathlib.Core.Path.{_≡_, refl, sym, _∙_}
+use mathlib.Core.Bool.{Bool, true, false, cond}
 use mathlib.Core.List.{List, _++_}
 use mathlib.Core.Logic.{⊎-elim}
 use native.Mathlib.Omega.{arith}
-use lib.Dec.{leb, ltb, eqb}
+use lib.Dec.{ltb}
 use lib.ListN.{length, take, drop}
-use lib.Ieee.{Float, binary64, nan, add}
-use borrow.Author.Tests.{lt-ltb, le-ltb, le-leb, lt-leb, eqb-true, eqb-false, not-false}
+use lib.Ieee.{Float, nan}
+use borrow.Author.Tests.{lt-ltb, le-ltb, le-leb, lt-leb, eqb-true, not-false}
 use Rattle.lists.specs.Each.{each, each-same}
 use Rattle.lists.specs.Window.{within, each-window, lt-or-le}
 use Rattle.activity_profile.specs.declared.BandPassActivityProfile.{BandPassActivityProfile}
 use Rattle.activity_profile.specs.declared.ActivityProfileState.{ActivityProfileState}
 use Rattle.activity_profile.specs.Verdict.{granted}
-use Rattle.activity_profile.specs.Add.{at, superStates, times, weight, spreads, received, firstLocus, lowest, highest, needed, addVerdict, addedCell}
+use Rattle.activity_profile.specs.Add.{at, superStates, spreads, received, firstLocus, lowest, highest, needed, addVerdict, addedCell}
 use Rattle.activity_profile.specs.Window.{gained, lo, hi, off, held}
 use Rattle.lists.specs.Tests.{or-right}
 use Rattle.activity_profile.proofs.Verdicts.{this-not}
-use Rattle.activity_profile.proofs.Facts.{Whole, Accepted, accepted-is}
+use Rattle.activity_profile.proofs.Facts.{Whole, accepted-is}
+use Rattle.activity_profile.proofs.Unbroken.{first-is, high-is}
 
 -- ---- where the window lies
 
@@ -40,21 +41,6 @@ lowest-is : (b : Bool) (q f : ℕ) → 1 ≤ q → (cond b (max 1 (q - f)) q ≤
 lowest-is true q f h = omega arith
 lowest-is false q f h = omega arith
 
-highest-is : (b : Bool) (q f l : ℕ) → q ≤ l → (q ≤ cond b (min l (q + f)) q) × (cond b (min l (q + f)) q ≤ q + f) × (cond b (min l (q + f)) q ≤ l)
-highest-is true q f l h = omega arith
-highest-is false q f l h = omega arith
-
-first-is : (p : BandPassActivityProfile) (n : ℕ) (s : ActivityProfileState) → Accepted p n s → (1 ≤ firstLocus p s) × (firstLocus p s ≤ at s)
-unfolding firstLocus
-first-is p n s a = go (eqb (p .count) 0) refl
-  where
-    go : (b : Bool) → eqb (p .count) 0 ≡ b → (1 ≤ cond b (at s) (p .«region_start»)) × (cond b (at s) (p .«region_start») ≤ at s)
-    go true e = omega (arith, a .low)
-    go false e =
-        let c = eqb-false (p .count) 0 e in
-        let h : 0 < p .count = omega arith in
-        omega (arith, a .whole .some h, a .next h)
-
 count-on : (p : BandPassActivityProfile) (n : ℕ) → Whole p n → p .count ≤ p .«contig_len»
 count-on p n w = go (p .count) refl
   where
@@ -72,17 +58,17 @@ reached-is p n k s e =
     let a = accepted-is p n k s e in
     let f = first-is p n s a in
     let l = lowest-is (spreads s) (at s) (p .«filter_size») (a .low) in
-    let h = highest-is (spreads s) (at s) (p .«filter_size») (p .«contig_len») (a .high) in
+    let h = high-is p n s a in
     record {
-      first = f .1;
-      some = f .0;
+      first = f .high;
+      some = f .low;
       whole = a .whole;
       asked = (a .low, a .high);
       low = l .0;
       near = l .1;
-      high = h .0;
-      far = h .1;
-      on = h .2;
+      high = h .at-high;
+      far = h .high-near;
+      on = h .high-on;
       room = omega (arith, a .room);
       count = omega (arith, count-on p n (a .whole));
       kernel = kernel-is p n k s e;
