@@ -17,6 +17,9 @@ pub enum Function {
     Pop = 11,
     Run = 12,
     ClipCount = 13,
+    Score = 14,
+    PairSum = 15,
+    Log10Sum = 16,
 }
 
 /// One answer: the function's number, how many words follow, and the words of the arguments and then of the results.

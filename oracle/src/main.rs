@@ -15,6 +15,7 @@ mod minimal_genotyping;
 mod random;
 mod refusals;
 mod runs;
+mod scores;
 mod stand_ins;
 
 use stand_ins::{bio_ids, read_binding, read_model, read_projection};
@@ -24,7 +25,7 @@ fn main() {
     let words: Vec<String> = std::env::args().skip(1).collect();
     let number = |i: usize| words.get(i).and_then(|w| w.parse::<u64>().ok());
     let (Some(name), Some(seed), Some(count)) = (words.first(), number(1), number(2)) else {
-        eprintln!("usage: oracle elementary|kernel|runs|calls|clips SEED COUNT > FILE");
+        eprintln!("usage: oracle elementary|kernel|runs|calls|clips|scores|sums SEED COUNT > FILE");
         std::process::exit(2);
     };
     let mut out = std::io::BufWriter::new(std::io::stdout().lock());
@@ -34,6 +35,8 @@ fn main() {
         "runs" => runs::run_list(seed, count, &mut out),
         "calls" => runs::call_list(seed, count, &mut out),
         "clips" => clips::clip_list(seed, count, &mut out),
+        "scores" => scores::score_list(seed, count, &mut out),
+        "sums" => scores::sum_list(seed, count, &mut out),
         _ => {
             eprintln!("oracle: no list named {name}");
             std::process::exit(2);

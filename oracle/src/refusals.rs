@@ -1,8 +1,11 @@
 //! Document 01's ranges and refusals, put over the Rust, which has none of them or others.
 use crate::activity_profile::{BandPassActivityProfileParams, PositiveSigma};
+use crate::scores::Scoring;
 
 pub const SETTING: u64 = 1;
 pub const KERNEL_BUFFER: u64 = 2;
+pub const WORD: u64 = 3;
+pub const DEPTH: u64 = 4;
 
 pub const MAX_POSITION: u32 = 1_073_741_823;
 
@@ -47,4 +50,25 @@ impl Settings {
         }
         0
     }
+}
+
+/// The number of the refusal of a score, or 0: scoring 1, 4, 3.
+pub fn scoring_refusal(s: &Scoring, position: u32, pile: &[u32]) -> u64 {
+    let in_range = (1..=254).contains(&s.min_qual)
+        && (1..=254).contains(&s.deletion_qual)
+        && (1..=100).contains(&s.ploidy)
+        && (0.000001..=0.5).contains(&s.heterozygosity)
+        && (0.0001..=1.0).contains(&s.deviation)
+        && (1.0 / 1024.0..=1024.0).contains(&s.alt_multiplier)
+        && (1..=MAX_POSITION).contains(&position);
+    if !in_range {
+        return SETTING;
+    }
+    if pile.len() > 16_384 {
+        return DEPTH;
+    }
+    if pile.iter().any(|w| w >> 30 != 1) {
+        return WORD;
+    }
+    0
 }

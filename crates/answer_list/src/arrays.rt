@@ -5,6 +5,8 @@ use crate::words::word_at;
 ghost use mathlib.Core.Path.{_≡_};
 ghost use Prim.Native.Nat.{min};
 ghost use lib.ListN.{getD};
+ghost use Rattle.lists.specs.Each.{tabulate};
+ghost use Rattle.answer_list.specs.Arrays.{doubleAt, patternAt};
 
 // The length in word i, cut to the room that there is; an answer with a longer slice then differs.
 pub fn length_at(words: &[u64], i: usize) -> usize
@@ -18,7 +20,9 @@ pub fn length_at(words: &[u64], i: usize) -> usize
 }
 
 // The doubles from word `at` on.
-pub fn doubles_from(words: &[u64], at: usize) -> [f64; 1024] {
+pub fn doubles_from(words: &[u64], at: usize) -> [f64; 1024]
+    ensures { λ r. ⌜ r ≡ tabulate (doubleAt (now (words .entry)) at) 1024 ⌝ }
+{
     let mut into = [0.0f64; 1024];
     let mut i = 0usize;
     while i < 1024 {
@@ -29,7 +33,9 @@ pub fn doubles_from(words: &[u64], at: usize) -> [f64; 1024] {
 }
 
 // Entry i is the double whose bits are `first` + i: what a lent buffer holds before a call.
-pub fn filled(first: u64) -> [f64; 1024] {
+pub fn filled(first: u64) -> [f64; 1024]
+    ensures { λ r. ⌜ r ≡ tabulate (patternAt first) 1024 ⌝ }
+{
     let mut buffer = [0.0f64; 1024];
     let mut i = 0usize;
     while i < 1024 {

@@ -23,7 +23,7 @@ double s = record { m = mul binary64 (s .m) twoF; halvings = s .halvings; doubli
 abbrev pub from1 : Scaled → Bool
 from1 s = not (lt (s .m) oneF)
 
--- as many halvings or doublings as any finite double needs: `proofs/Scaling.antt` shows that no loop is cut short
+-- as many halvings or doublings as any finite double needs: `specs/Scaling.antt` shows that no loop is cut short
 abbrev pub maxScalings : ℕ
 maxScalings = 1074
 

@@ -17,7 +17,7 @@ shift s = record { x = add binary64 (s .x) oneF; c = add binary64 (s .c) (lnOf (
 abbrev pub from16 : Shifted → Bool
 from16 s = not (lt (s .x) sixteenF)
 
--- as many turns as any x above 0 needs: `proofs/Scaling.antt` shows that the loop is not cut short
+-- as many turns as any x above 0 needs: `specs/Scaling.antt` shows that the loop is not cut short
 abbrev pub maxShifts : ℕ
 maxShifts = 16
 

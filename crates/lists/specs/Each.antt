@@ -103,6 +103,11 @@ module _ {A : Type 0} where
   each-fixed f [] = refl
   each-fixed f (x ∷ l) = ap (λ (t : List A). f 0 ∷ t) (each-fixed (λ k. f (suc k)) l)
 
+  pub each-constant : (a : A) (l : List A) → each (fixed (λ _. a)) l ≡ replicate (length l) a
+  unfolding each upTo
+  each-constant a [] = refl
+  each-constant a (x ∷ l) = ap (λ (t : List A). a ∷ t) (each-constant a l)
+
   pub length-tabulate : (f : ℕ → A) (n : ℕ) → length (tabulate f n) ≡ n
   unfolding tabulate
   length-tabulate f zero = refl

@@ -5,8 +5,8 @@ use libc::STDOUT_FILENO;
 ghost use Prim.Native.Nat.{_≤_};
 
 fn main() {
-    let mut asked = [0u64; 14];
-    let mut agreed = [0u64; 14];
+    let mut asked = [0u64; 17];
+    let mut agreed = [0u64; 17];
     let count = os::arg_count();
     let mut i = 1;
     while i < count {
@@ -17,7 +17,7 @@ fn main() {
 }
 
 // Replays the file that argument i names.
-fn replay_file(i: usize, asked: &mut [u64; 14], agreed: &mut [u64; 14]) {
+fn replay_file(i: usize, asked: &mut [u64; 17], agreed: &mut [u64; 17]) {
     let mut name = [0u8; 256];
     let n = os::arg(i, &mut name);
     let fd = os::open_read(&name[..n]);
@@ -31,7 +31,7 @@ fn replay_file(i: usize, asked: &mut [u64; 14], agreed: &mut [u64; 14]) {
 }
 
 // Replays the answers of a list to its end.
-fn replay_list(fd: i32, words: &mut [u64], asked: &mut [u64; 14], agreed: &mut [u64; 14]) {
+fn replay_list(fd: i32, words: &mut [u64], asked: &mut [u64; 17], agreed: &mut [u64; 17]) {
     let mut budget = 1000000000u64;
     while budget > 0 {
         if !replay_next(fd, words, asked, agreed) {
@@ -42,7 +42,7 @@ fn replay_list(fd: i32, words: &mut [u64], asked: &mut [u64; 14], agreed: &mut [
 }
 
 // Replays the next answer; false at the end. A list that ends within an answer counts as one that differs.
-fn replay_next(fd: i32, words: &mut [u64], asked: &mut [u64; 14], agreed: &mut [u64; 14]) -> bool {
+fn replay_next(fd: i32, words: &mut [u64], asked: &mut [u64; 17], agreed: &mut [u64; 17]) -> bool {
     let answer = answer_list::read_answer(fd, words);
     match answer {
         Answer::Words { function, count } => {
@@ -60,17 +60,17 @@ fn replay_next(fd: i32, words: &mut [u64], asked: &mut [u64; 14], agreed: &mut [
 
 // The place of a function in the tallies; 0 is for answers of no function here.
 fn index_of(function: u64) -> usize
-    ensures { λ r. ⌜ r ≤ 13 ⌝ }
+    ensures { λ r. ⌜ r ≤ 16 ⌝ }
 {
-    if function <= 13 {
+    if function <= 16 {
         return function as usize;
     }
     0
 }
 
 // Counts an answer.
-fn tally(at: usize, same: bool, asked: &mut [u64; 14], agreed: &mut [u64; 14])
-    requires { ⌜ at ≤ 13 ⌝ }
+fn tally(at: usize, same: bool, asked: &mut [u64; 17], agreed: &mut [u64; 17])
+    requires { ⌜ at ≤ 16 ⌝ }
 {
     asked[at] = std::num::wrapping_add_u64(asked[at], 1);
     if same {
@@ -90,7 +90,7 @@ fn replay(function: u64, words: &[u64]) -> bool {
 }
 
 // A line for each function that the lists had.
-fn report(asked: &[u64; 14], agreed: &[u64; 14]) {
+fn report(asked: &[u64; 17], agreed: &[u64; 17]) {
     line(b"exp", asked[1], agreed[1]);
     line(b"ln", asked[2], agreed[2]);
     line(b"log10", asked[3], agreed[3]);
@@ -104,6 +104,9 @@ fn report(asked: &[u64; 14], agreed: &[u64; 14]) {
     line(b"pop", asked[11], agreed[11]);
     line(b"run", asked[12], agreed[12]);
     line(b"clip count", asked[13], agreed[13]);
+    line(b"score", asked[14], agreed[14]);
+    line(b"approximate_log10_sum_log10_pair", asked[15], agreed[15]);
+    line(b"log10_sum_log10", asked[16], agreed[16]);
     line(b"unknown or malformed", asked[0], agreed[0]);
 }
 

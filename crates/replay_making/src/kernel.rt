@@ -9,6 +9,8 @@ use answer_list::length_at;
 use answer_list::number_at;
 use answer_list::word_at;
 use band_pass_kernel::BandPassActivityProfileParams;
+ghost use mathlib.Core.Path.{_≡_};
+ghost use Rattle.replay_making.specs.Params.{paramsOf};
 
 // mean, sd, x; the density.
 pub fn normal_distribution(words: &[u64]) -> bool {
@@ -101,7 +103,9 @@ fn profile<'a>(
 }
 
 // distance, threshold, max filter, sigma and adaptive, from word 2 on.
-pub fn params_of(words: &[u64]) -> BandPassActivityProfileParams {
+pub fn params_of(words: &[u64]) -> BandPassActivityProfileParams
+    ensures { λ r. ⌜ r ≡ paramsOf (now (words .entry)) ⌝ }
+{
     BandPassActivityProfileParams {
         max_prob_propagation_distance: number_at(words, 2),
         active_prob_threshold: double_at(words, 3),

@@ -1,18 +1,25 @@
--- P1 to P10 and P15 of document 01, against the definitions. Assumes nothing.
+-- P1 to P15 of document 01, against the definitions. Assumes nothing.
 use mathlib.Core.Path.{_≡_, refl}
-use mathlib.Core.Bool.{Bool, true, false}
+use mathlib.Core.Bool.{Bool, true, false, cond}
 use mathlib.Core.List.{List, [], _∷_, map}
 use Prim.Native.Nat.{ℕ, _+_, _*_, _<_}
 use lib.ListN.{length}
-use lib.Ieee.{Float, binary64, round, ofBits, lt, le}
+use lib.Ieee.{Float, binary64, round, ofBits, ofInt, toUnsigned, add, sub, div, lt, le, ne}
 use Rattle.lists.specs.Each.{each, upTo}
 use Rattle.lists.specs.Loops.{down, firstAt, foldl}
 use Rattle.activity_profile.specs.declared.BandPassActivityProfile.{BandPassActivityProfile}
-use Rattle.activity_profile.specs.declared.ActivityEvidence.the-variants.{HighQualitySoftClips}
+use Rattle.activity_profile.specs.declared.ActivityEvidence.{ActivityEvidence}
+use Rattle.activity_profile.specs.declared.ActivityEvidence.the-variants.{Plain, HighQualitySoftClips}
 use Rattle.activity_profile.specs.Profile.{settingsInRange, placed, broken}
 use Rattle.activity_profile.specs.Add.{superStates}
 use Rattle.activity_profile.specs.Pop.{PopAnswer, refusedPop, emptyPop, heldPop, regionPop, popAnswer, popAnswerBy, popVerdict, turn, kept, qualifies, beats, replaces, better, bestCutSite, orMost, sizeOf, popSize, regionOf, rest}
 use Rattle.genome.specs.Refusals.{Outcome, refused, answered}
+use Rattle.genotype_likelihoods.specs.declared.HaplotypeCallerActivityScoringParams.{HaplotypeCallerActivityScoringParams}
+use Rattle.genotype_likelihoods.specs.Settings.{defaults}
+use Rattle.genotype_likelihoods.specs.Observation.{effectiveQual, skips, qualOf, skipped}
+use Rattle.genotype_posterior.specs.Phred.{minF, plOf}
+use Rattle.activity_scoring.specs.Mean.{withWord, meanOf}
+use Rattle.activity_scoring.specs.Score.{evidenceOf}
 use Rattle.hq_soft_clip.specs.SoftClips.{clipCount, countHigh, walked}
 use Rattle.worked_examples.specs.Rows.{Row, same, allRight, rowAt, each-row}
 
@@ -52,8 +59,38 @@ popOf : List ℕ → ℕ → Bool → List ℕ
 unfolding told popAnswer tenths profile
 popOf cells least forced = told (popAnswer (profile 1 0 1 (length cells) (length cells)) (map tenths cells) 0 least 4 forced)
 
+-- an observation word: quality, deletion, alt, next to soft clip, clip count
+word : ℕ → ℕ → ℕ → ℕ → ℕ → ℕ
+word qual deletion alt near clips = 0x4000_0000 + qual * 0x40_0000 + deletion * 0x20_0000 + alt * 0x10_0000 + near * 0x8_0000 + clips
+
+-- the Rust's settings with another minimum, with the flow model or without
+minimum : ℕ → Bool → HaplotypeCallerActivityScoringParams
+minimum least flow = record {
+  «min_base_quality_score» = least;
+  «sample_ploidy» = defaults .«sample_ploidy»;
+  «snp_heterozygosity» = defaults .«snp_heterozygosity»;
+  «heterozygosity_standard_deviation» = defaults .«heterozygosity_standard_deviation»;
+  «ref_model_deletion_qual» = defaults .«ref_model_deletion_qual»;
+  «active_region_alt_multiplier» = defaults .«active_region_alt_multiplier»;
+  «flow_based_reference_model» = flow;
+}
+
+-- 1 for a word that is skipped
+skippedOf : HaplotypeCallerActivityScoringParams → ℕ → ℕ
+skippedOf s w = cond (skipped s w) 1 0
+
+-- 0, plain; 1 and the clip count
+evidenceTold : ActivityEvidence → List ℕ
+evidenceTold Plain = 0 ∷ []
+evidenceTold (HighQualitySoftClips n) = 1 ∷ n ∷ []
+
+-- of alt bases next to a clip with these counts
+clipsOf : List ℕ → List ℕ
+unfolding evidenceTold evidenceOf meanOf word
+clipsOf counts = evidenceTold (evidenceOf (meanOf defaults (map (word 30 0 1 1) counts)))
+
 pub table : List Row
-unfolding popOf told popAnswer tenths profile superStates kept numbered clipCount
+unfolding popOf told popAnswer tenths profile superStates kept numbered clipCount word minimum skippedOf clipsOf plOf
 table =
     record { number = 1; given = popOf (9 ∷ 5 ∷ 2 ∷ 5 ∷ 9 ∷ []) 2 false; wanted = 3 ∷ 1 ∷ 3 ∷ [] }
     ∷ record { number = 2; given = popOf (9 ∷ 2 ∷ 5 ∷ 2 ∷ 9 ∷ []) 2 false; wanted = 3 ∷ 1 ∷ 4 ∷ [] }
@@ -79,12 +116,22 @@ table =
       }) 1 (HighQualitySoftClips 3) ∷ [];
       wanted = 3 ∷ [];
     }
+    ∷ record { number = 11; given = skippedOf (minimum 10 false) (word 10 0 1 0 0) ∷ skippedOf (minimum 10 false) (word 9 0 1 0 0) ∷ []; wanted = 0 ∷ 1 ∷ [] }
+    ∷ record { number = 12; given = qualOf defaults (word 60 1 1 0 0) ∷ qualOf defaults (word 60 0 1 0 0) ∷ []; wanted = 30 ∷ 60 ∷ [] }
+    ∷ record {
+      number = 12;
+      given = skippedOf (minimum 31 true) (word 60 1 1 0 0) ∷ skippedOf (minimum 31 false) (word 60 1 1 0 0) ∷ skippedOf (minimum 30 true) (word 60 1 1 0 0) ∷ [];
+      wanted = 1 ∷ 0 ∷ 0 ∷ [];
+    }
+    ∷ record { number = 13; given = clipsOf (6 ∷ 8 ∷ []); wanted = 1 ∷ 7 ∷ [] }
+    ∷ record { number = 13; given = clipsOf (6 ∷ []); wanted = 0 ∷ [] }
+    ∷ record { number = 14; given = plOf (tenths 25) ∷ []; wanted = 3 ∷ [] }
     ∷ record { number = 15; given = numbered (clipCount ((3 * 16 + 4) ∷ (2 * 16 + 0) ∷ []) (28 ∷ 29 ∷ 30 ∷ 40 ∷ 40 ∷ [])); wanted = 1 ∷ 2 ∷ [] }
     ∷ []
 
 -- the one proof
 pub table-right : allRight table ≡ true
-unfolding table allRight same popOf told tenths profile popAnswer popAnswerBy popVerdict turn kept broken settingsInRange placed qualifies beats replaces better bestCutSite orMost sizeOf popSize regionOf rest superStates numbered clipCount countHigh walked foldl down firstAt each upTo lt le ofBits round
+unfolding table allRight same popOf told tenths profile popAnswer popAnswerBy popVerdict turn kept broken settingsInRange placed qualifies beats replaces better bestCutSite orMost sizeOf popSize regionOf rest superStates numbered clipCount countHigh walked word minimum skippedOf clipsOf evidenceTold effectiveQual skips evidenceOf meanOf withWord plOf minF toUnsigned ofInt add sub div ne foldl down firstAt each upTo lt le ofBits round
 table-right = refl
 
 -- every row

@@ -1,0 +1,142 @@
+// The score of a pile.
+use crate::Activity;
+use crate::Scored;
+use crate::mean::hq_soft_clip_running_mean_rcm_path;
+use activity_profile::ActivityEvidence;
+use activity_profile::ActivityProfileState;
+use genome::GenomePosition;
+use genome::Refusal;
+use genotype_likelihoods::HaplotypeCallerActivityScoringParams;
+use genotype_likelihoods::PileupObservation;
+ghost use mathlib.Core.Path.{_≡_};
+ghost use mathlib.Core.Bool.{true};
+ghost use Prim.Native.Nat.{_+_, _≤_};
+ghost use lib.ListN.{length};
+ghost use Rattle.lists.specs.Loops.{foldl};
+ghost use Rattle.activity_scoring.specs.Score.{inRange, maxDepth, andObservation, allObservations, evidenceOf, fromRounded, activityOf, stateOf, scoredOf, scoreOf};
+
+// The longest pile: document 01's refusal 4.
+pub const MAX_DEPTH: usize = 16384;
+
+// A mean of clip counts strictly above it makes clip evidence.
+pub const AVERAGE_HQ_SOFTCLIPS_HQ_BASES_THRESHOLD: f64 = 6.0;
+
+// Scores a pile. Refuses a setting or a position outside its range, then a pile that is too deep, then a word that is no observation.
+pub fn haplotype_caller_activity_profile_state_single_sample(
+    contig: u32,
+    pos: GenomePosition,
+    pile: &[u32],
+    params: HaplotypeCallerActivityScoringParams,
+) -> Scored
+    ensures { λ r. ⌜ scoredOf r ≡ scoreOf contig pos (now (pile .entry)) params ⌝ }
+{
+    if !is_in_range(pos, params) {
+        return Scored::Refused(Refusal::Setting);
+    }
+    if pile.len() > MAX_DEPTH {
+        return Scored::Refused(Refusal::Depth);
+    }
+    if !are_observations(pile) {
+        return Scored::Refused(Refusal::Word);
+    }
+    Scored::Score(state_of(contig, pos, pile, params))
+}
+
+fn is_in_range(pos: GenomePosition, params: HaplotypeCallerActivityScoringParams) -> bool
+    ensures { λ r. ⌜ r ≡ inRange pos params ⌝ }
+{
+    params.in_range() & genome::within_u32(1, pos.0, genome::MAX_POSITION)
+}
+
+fn are_observations(pile: &[u32]) -> bool
+    ensures { λ r. ⌜ r ≡ allObservations (now (pile .entry)) ⌝ }
+{
+    let mut all = true;
+    let mut i = 0;
+    while i < pile.len() {
+        all = all & PileupObservation::is_word(pile[i]);
+        i += 1;
+    }
+    all
+}
+
+// The state of a pile that is not refused. An empty pile has no activity.
+fn state_of(
+    contig: u32,
+    pos: GenomePosition,
+    pile: &[u32],
+    params: HaplotypeCallerActivityScoringParams,
+) -> ActivityProfileState
+    requires { ⌜ params .«sample_ploidy» .0 ≤ 100 ⌝ }
+    ensures { λ r. ⌜ r ≡ stateOf contig pos (now (pile .entry)) params ⌝ }
+{
+    if pile.len() == 0 {
+        return ActivityProfileState {
+            contig,
+            pos,
+            active_prob: 0.0,
+            original_active_prob: 0.0,
+            evidence: ActivityEvidence::Plain,
+        };
+    }
+    let evidence = evidence_of(hq_soft_clip_running_mean_rcm_path(pile, params));
+    let a = activity_of(pile, params);
+    ActivityProfileState {
+        contig,
+        pos,
+        active_prob: a.probability,
+        original_active_prob: a.original,
+        evidence,
+    }
+}
+
+fn evidence_of(mean: f64) -> ActivityEvidence
+    ensures { λ r. ⌜ r ≡ evidenceOf mean ⌝ }
+{
+    if mean > AVERAGE_HQ_SOFTCLIPS_HQ_BASES_THRESHOLD {
+        let clip_bases = math_utils::as_u32(mean);
+        return ActivityEvidence::HighQualitySoftClips { clip_bases };
+    }
+    ActivityEvidence::Plain
+}
+
+// Likelihoods in an array with room for the largest ploidy.
+fn activity_of(pile: &[u32], params: HaplotypeCallerActivityScoringParams) -> Activity
+    requires { ⌜ params .«sample_ploidy» .0 ≤ 100 ⌝ }
+    ensures { λ r. ⌜ r ≡ activityOf (now (pile .entry)) params ⌝ }
+{
+    let mut gl = [0.0; 101];
+    let p = params.sample_ploidy;
+    let n = p.0 as usize + 1;
+    activity_in(&mut gl[..n], pile, params)
+}
+
+fn activity_in(
+    gl: &mut [f64],
+    pile: &[u32],
+    params: HaplotypeCallerActivityScoringParams,
+) -> Activity
+    requires { ⌜ length (now gl) ≡ params .«sample_ploidy» .0 + 1 ⌝ }
+    ensures { λ r. ⌜ r ≡ activityOf (now (pile .entry)) params ⌝ }
+{
+    genotype_likelihoods::calc_ref_vs_any_log10_genotype_likelihoods(gl, pile, params);
+    genotype_posterior::genotype_log10_likelihoods_after_java_genotype_pl_roundtrip(gl);
+    from_rounded(gl, params)
+}
+
+fn from_rounded(gl: &mut [f64], params: HaplotypeCallerActivityScoringParams) -> Activity
+    requires { ⌜ 1 ≤ length (now gl) ⌝ }
+    ensures { λ r. ⌜ r ≡ fromRounded params (now (gl .entry)) ⌝ }
+{
+    let m = math_utils::max_element_index(&gl[..]);
+    let original = gl[m] - gl[0];
+    let probability = genotype_posterior::calculate_single_sample_biallelic_non_ref_posterior(
+        gl,
+        params.snp_heterozygosity,
+        params.heterozygosity_standard_deviation,
+    );
+    Activity {
+        probability,
+        original,
+    }
+}

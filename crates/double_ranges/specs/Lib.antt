@@ -1,0 +1,4 @@
+pub mod Order
+pub mod Sign
+pub mod Size
+pub mod Small

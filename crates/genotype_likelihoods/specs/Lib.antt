@@ -1,0 +1,4 @@
+pub mod Settings
+pub mod Observation
+pub mod Contribution
+pub mod Likelihoods

@@ -1,0 +1,76 @@
+-- `write_unnormalized` meets its contract: the entries before i have their prior.
+use Prim.Native.Nat.{_-_, _≤_}
+use mathlib.Core.Path.{_∙_, _≡_, refl, sym}
+use native.Mathlib.Omega.{arith}
+use lib.Ieee.{nan}
+use lib.ListN.{length, length-set}
+use borrow.Author.Needs.{needs}
+use Rattle.genotype_posterior.specs.Posterior.{unnormalized}
+use Rattle.lists.specs.Each.{upTo, upTo-all, upTo-turn, upTo-zero}
+use Rattle.genotype_posterior.proofs.posterior.write_unnormalized.Statement.{statement}
+use Rattle.genotype_posterior.proofs.posterior.write_unnormalized.Tie as tie
+
+abbrev Inv-loop : tie.InvT-loop
+Inv-loop gl₀ ref-pc snp-pc ploidy i₀ gl i = (i ≤ length gl₀) × (length gl ≡ length gl₀) × (gl ≡ upTo (unnormalized (length gl₀ - 1) ref-pc snp-pc) i gl₀)
+
+abbrev μ-loop : tie.MeasureT-loop
+μ-loop gl₀ ref-pc snp-pc ploidy i₀ gl i = length gl₀ - i
+
+sub-ploidy : tie.Need-sub-ploidy Inv-loop μ-loop
+sub-ploidy c = search needs
+
+loop-holds : tie.Need-loop-holds Inv-loop μ-loop
+loop-holds c = (omega arith, refl, sym (upTo-zero _ _))
+
+mul-gl : tie.Need-mul-gl Inv-loop μ-loop
+mul-gl c = search needs
+
+slice-read-gl : tie.Need-slice-read-gl Inv-loop μ-loop
+slice-read-gl c = search needs
+
+ln-prior-requires : tie.Need-ln-prior-requires Inv-loop μ-loop
+ln-prior-requires c κs = search needs
+
+mul-gl-2 : tie.Need-mul-gl-2 Inv-loop μ-loop
+mul-gl-2 c = search needs
+
+slice-write-gl : tie.Need-slice-write-gl Inv-loop μ-loop
+slice-write-gl c = search needs
+
+add-i : tie.Need-add-i Inv-loop μ-loop
+add-i c = search needs
+
+loop-less : tie.Need-loop-less Inv-loop μ-loop
+loop-less c = search needs
+
+loop-again : tie.Need-loop-again Inv-loop μ-loop
+unfolding unnormalized
+loop-again c =
+    let at = c .before .before .before in
+    let a = at .before .before .args in
+    (omega arith, simp length-set (omega arith), rw (c .ln-prior .ensures) (upTo-turn (unnormalized (length (a .gl .now) - 1) (a .ref-pc) (a .snp-pc)) _ _ _ nan (at .loop .inv .2) (omega arith)))
+
+same-length : tie.Need-same-length Inv-loop μ-loop
+same-length c = c .before .loop .inv .1
+
+returns : tie.Need-returns Inv-loop μ-loop
+returns c = c .before .loop .inv .2 ∙ upTo-all (unnormalized _ _ _) _ _ (omega arith)
+
+pub write-unnormalized-spec : {M : Type 1} → statement M
+write-unnormalized-spec =
+    tie.close
+    (tie.spec
+    Inv-loop
+    μ-loop
+    sub-ploidy
+    loop-holds
+    mul-gl
+    slice-read-gl
+    ln-prior-requires
+    mul-gl-2
+    slice-write-gl
+    add-i
+    loop-less
+    loop-again
+    same-length
+    returns)

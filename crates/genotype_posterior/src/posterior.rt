@@ -1,0 +1,75 @@
+// The probability that a sample is not all reference.
+ghost use mathlib.Core.Path.{_≡_};
+ghost use Prim.Native.Nat.{_-_, _<_, _≤_};
+ghost use lib.ListN.{length};
+ghost use Rattle.lists.specs.Each.{each};
+ghost use Rattle.genotype_posterior.specs.Posterior.{logBinomial, lnPrior, unnormalized, nonRef, posterior, posteriorWritten};
+
+// From the rounded likelihoods of ploidy + 1 genotypes, over which the unnormalized posteriors are written. 0.0, with nothing written, where the
+// reference genotype is the likeliest; 0.0 too where it has the largest posterior.
+pub fn calculate_single_sample_biallelic_non_ref_posterior(
+    gl: &mut [f64],
+    snp_heterozygosity: f64,
+    heterozygosity_standard_deviation: f64,
+) -> f64
+    ensures { λ r. ⌜ r ≡ posterior «snp_heterozygosity» «heterozygosity_standard_deviation» (now (gl .entry)) ⌝ }
+    ensures { λ _. ⌜ now (gl .exit) ≡ posteriorWritten «snp_heterozygosity» «heterozygosity_standard_deviation» (now (gl .entry)) ⌝ }
+{
+    if math_utils::max_element_index(&gl[..]) == 0 {
+        return 0.0;
+    }
+    let ref_pc = snp_heterozygosity
+        / (heterozygosity_standard_deviation * heterozygosity_standard_deviation);
+    let snp_pc = snp_heterozygosity * ref_pc;
+    write_unnormalized(gl, ref_pc, snp_pc);
+    non_ref(&gl[..])
+}
+
+// Each likelihood with the log10 of its genotype's prior added.
+fn write_unnormalized(gl: &mut [f64], ref_pc: f64, snp_pc: f64)
+    requires { ⌜ 0 < length (now gl) ⌝ }
+    ensures { λ _. ⌜ now (gl .exit) ≡ each (unnormalized (length (now (gl .entry)) - 1) «ref_pc» «snp_pc») (now (gl .entry)) ⌝ }
+{
+    let ploidy = gl.len() as u64 - 1;
+    let mut i = 0;
+    while i < gl.len() {
+        gl[i] = gl[i] + ln_prior(ploidy, i as u64, ref_pc, snp_pc) * 0.4342944819032518;
+        i += 1;
+    }
+}
+
+// The natural logarithm of the prior of n copies of the alternate.
+fn ln_prior(ploidy: u64, n: u64, ref_pc: f64, snp_pc: f64) -> f64
+    requires { ⌜ (n ≤ ploidy) × (ploidy < 18446744073709551615) ⌝ }
+    ensures { λ r. ⌜ r ≡ lnPrior ploidy «ref_pc» «snp_pc» n ⌝ }
+{
+    let copies = std::num::nearest_u64_to_f64(n);
+    let all = std::num::nearest_u64_to_f64(ploidy);
+    let binomial = log_binomial_coefficient_natural(ploidy, n);
+    let alt = elementary::ln_gamma(copies + snp_pc);
+    let reference = elementary::ln_gamma(all - copies + ref_pc);
+    binomial + alt + reference
+}
+
+// The natural logarithm of n over k.
+fn log_binomial_coefficient_natural(n: u64, k: u64) -> f64
+    requires { ⌜ (k ≤ n) × (n < 18446744073709551615) ⌝ }
+    ensures { λ r. ⌜ r ≡ logBinomial n k ⌝ }
+{
+    let a = elementary::ln_gamma(std::num::nearest_u64_to_f64(n + 1));
+    let b = elementary::ln_gamma(std::num::nearest_u64_to_f64(k + 1));
+    let c = elementary::ln_gamma(std::num::nearest_u64_to_f64(n - k + 1));
+    a - b - c
+}
+
+// 1 less the normalized posterior of the reference genotype, or 0.0 where that one is the largest.
+fn non_ref(u: &[f64]) -> f64
+    requires { ⌜ 0 < length (now u) ⌝ }
+    ensures { λ r. ⌜ r ≡ nonRef (now (u .entry)) ⌝ }
+{
+    if math_utils::max_element_index(u) == 0 {
+        return 0.0;
+    }
+    let sum = math_utils::log10_sum_log10(u);
+    1.0 - elementary::ten_to(u[0] - sum)
+}

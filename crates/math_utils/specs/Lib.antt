@@ -1,0 +1,3 @@
+pub mod Casts
+pub mod Pair
+pub mod Sums

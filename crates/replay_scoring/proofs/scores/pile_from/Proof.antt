@@ -1,0 +1,59 @@
+-- `pile_from` is safe: each index is below n.
+use Prim.Native.Nat.{_-_, _≤_}
+use borrow.Author.Needs.{needs}
+use Rattle.activity_profile.specs.Add.{at}
+use Rattle.replay_scoring.proofs.scores.pile_from.Statement.{statement}
+use Rattle.replay_scoring.proofs.scores.pile_from.Tie as tie
+
+abbrev Inv-loop : tie.InvT-loop
+Inv-loop words at k n pile₀ i₀ j₀ pile i j = i ≤ n
+
+abbrev μ-loop : tie.MeasureT-loop
+μ-loop words at k n pile₀ i₀ j₀ pile i j = n - i
+
+loop-holds : tie.Need-loop-holds Inv-loop μ-loop
+loop-holds c = search needs
+
+wrapping-add-usize-requires : tie.Need-wrapping-add-usize-requires Inv-loop μ-loop
+wrapping-add-usize-requires c κs = search needs
+
+number-at-requires : tie.Need-number-at-requires Inv-loop μ-loop
+number-at-requires c κs = search needs
+
+mul-pile : tie.Need-mul-pile Inv-loop μ-loop
+mul-pile c = search needs
+
+array-write-pile : tie.Need-array-write-pile Inv-loop μ-loop
+array-write-pile c = search needs
+
+next-requires : tie.Need-next-requires Inv-loop μ-loop
+next-requires c κs = search needs
+
+add-i : tie.Need-add-i Inv-loop μ-loop
+add-i c = search needs
+
+loop-less : tie.Need-loop-less Inv-loop μ-loop
+loop-less c = search needs
+
+loop-again : tie.Need-loop-again Inv-loop μ-loop
+loop-again c = search needs
+
+returns : tie.Need-returns Inv-loop μ-loop
+returns c = search needs
+
+pub pile-from-spec : {M : Type 1} → statement M
+pile-from-spec =
+    tie.close
+    (tie.spec
+    Inv-loop
+    μ-loop
+    loop-holds
+    wrapping-add-usize-requires
+    number-at-requires
+    mul-pile
+    array-write-pile
+    next-requires
+    add-i
+    loop-less
+    loop-again
+    returns)

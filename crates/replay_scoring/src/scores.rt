@@ -1,0 +1,106 @@
+// Scores of piles.
+use activity_profile::ActivityEvidence;
+use activity_profile::ActivityProfileState;
+use activity_scoring::Scored;
+use answer_list::Compared;
+use answer_list::double_at;
+use answer_list::length_at;
+use answer_list::number_at;
+use answer_list::word_at;
+use genome::GenomePosition;
+use genome::Ploidy;
+use genotype_likelihoods::HaplotypeCallerActivityScoringParams;
+ghost use Prim.Native.Nat.{_≤_};
+
+// contig, position, min base quality, ploidy, heterozygosity, deviation, deletion quality, alt multiplier, flow, depth, k, words[k]; the refusal's
+// number or 0, and where 0 probability, original probability and evidence. Word i of the pile is words[i % k].
+pub fn score(words: &[u64]) -> bool {
+    let n = depth_at(words, 9);
+    let k = length_at(words, 10);
+    let pile = pile_from(words, 11, k, n);
+    score_in(words, &pile[..n], 11 + k)
+}
+
+fn score_in(words: &[u64], pile: &[u32], results: usize) -> bool {
+    let scored = activity_scoring::haplotype_caller_activity_profile_state_single_sample(
+        number_at(words, 0),
+        GenomePosition(number_at(words, 1)),
+        pile,
+        params_at(words),
+    );
+    let c = Compared::from(results);
+    match scored {
+        Scored::Score(s) => state(words, c.word(words, 0), s).whole(words),
+        Scored::Refused(why) => c.word(words, why.number() as u64).whole(words),
+    }
+}
+
+// The state, which has the contig and the position that the call was given.
+fn state(words: &[u64], c: Compared, s: ActivityProfileState) -> Compared {
+    let p = s.pos;
+    let e = s.evidence;
+    let given = (s.contig == number_at(words, 0)) & (p.0 == number_at(words, 1));
+    let found = Compared {
+        at: c.at,
+        same: c.same & given,
+    };
+    found
+        .double(words, s.active_prob)
+        .double(words, s.original_active_prob)
+        .word(words, evidence(e))
+}
+
+fn evidence(e: ActivityEvidence) -> u64 {
+    match e {
+        ActivityEvidence::Plain => 0,
+        ActivityEvidence::HighQualitySoftClips { clip_bases } => clip_bases as u64 + 1,
+    }
+}
+
+fn params_at(words: &[u64]) -> HaplotypeCallerActivityScoringParams {
+    HaplotypeCallerActivityScoringParams {
+        min_base_quality_score: byte_at(words, 2),
+        sample_ploidy: Ploidy(byte_at(words, 3)),
+        snp_heterozygosity: double_at(words, 4),
+        heterozygosity_standard_deviation: double_at(words, 5),
+        ref_model_deletion_qual: byte_at(words, 6),
+        active_region_alt_multiplier: double_at(words, 7),
+        flow_based_reference_model: word_at(words, 8) == 1,
+    }
+}
+
+fn byte_at(words: &[u64], i: usize) -> u8 {
+    (word_at(words, i) % 256) as u8
+}
+
+// The depth in word i, cut to the room that there is: one more than the deepest pile.
+fn depth_at(words: &[u64], i: usize) -> usize
+    ensures { λ r. ⌜ r ≤ 16385 ⌝ }
+{
+    let n = word_at(words, i);
+    if n <= 16385 {
+        return n as usize;
+    }
+    16385
+}
+
+// The first n words of a pile that goes round the k words from word `at` on.
+fn pile_from(words: &[u64], at: usize, k: usize, n: usize) -> [u32; 16385]
+    requires { ⌜ n ≤ 16385 ⌝ }
+{
+    let mut pile = [0u32; 16385];
+    let mut i = 0;
+    let mut j = 0;
+    while i < n {
+        pile[i] = number_at(words, std::num::wrapping_add_usize(at, j));
+        j = next(j, k);
+        i += 1;
+    }
+    pile
+}
+
+// The place after j in a round of k.
+fn next(j: usize, k: usize) -> usize {
+    let after = std::num::wrapping_add_usize(j, 1);
+    if after < k { after } else { 0 }
+}
