@@ -1,12 +1,12 @@
 -- The order of doubles of any sign, infinities included. Assumes nothing.
 use mathlib.Core.Path.{_≡_, refl, sym, ap, subst, _∙_}
-use mathlib.Core.Bool.{Bool, true, false, not, true≢false, false≢true}
+use mathlib.Core.Bool.{Bool, true, false, _&&_, _||_, true≢false, false≢true}
 use Prim.Native.Nat.{ℕ, zero, suc, _+_, _*_, _≤_, _<_, zero-le}
-use native.Mathlib.Nat.{le-trans, le-of-eq, le-of-lt, le-of-mul-le-mul-right, mul-comm, zero-mul}
+use native.Mathlib.Nat.{le-trans, le-of-eq, le-of-lt, zero-mul}
 use native.Mathlib.Omega.{arith}
-use lib.Dec.{T, ltb}
+use lib.Dec.{T, ltb, eqb, ltb→lt, eqb→eq}
 use borrow.Author.Tests.{ltb-true, ltb-false}
-use lib.Ieee.{Float, nan, inf, fin, up, down, lt}
+use lib.Ieee.{Float, nan, inf, fin, up, down, lt, le}
 use lib.Ieee.Fits.{down-pos}
 use lib.Ieee.Positive.{through}
 
@@ -107,3 +107,35 @@ at-most-refl (inf true) p = tt
 at-most-refl (inf false) p = refl
 at-most-refl (fin true m e) p = le-of-eq refl
 at-most-refl (fin false m e) p = le-of-eq refl
+
+pub tested : (a b : ℕ) (y : Bool) → (T y → a ≡ b) → T (ltb a b || (y && true)) → a ≤ b
+tested a b y q t = go (ltb a b) y (ltb→lt a b) q t
+  where
+    go : (x y : Bool) → (T x → a < b) → (T y → a ≡ b) → T (x || (y && true)) → a ≤ b
+    go true y p q t = le-of-lt (p tt)
+    go false true p q t = le-of-eq (q tt)
+    go false false p q t = absurd t
+
+-- ±a <= ±b, as `le` tests it
+pub at-most-of-le : (x y : Float) → T (le x y) → AtMost x y
+unfolding le
+at-most-of-le nan y t = absurd t
+at-most-of-le (inf s) nan t = absurd t
+at-most-of-le (inf true) (inf t) h = tt
+at-most-of-le (inf false) (inf true) h = absurd h
+at-most-of-le (inf false) (inf false) h = refl
+at-most-of-le (inf true) (fin t n d) h = tt
+at-most-of-le (inf false) (fin t n d) h = absurd h
+at-most-of-le (fin s m e) nan t = absurd t
+at-most-of-le (fin s m e) (inf true) h = absurd h
+at-most-of-le (fin s m e) (inf false) h = refl
+at-most-of-le (fin true m e) (fin true n d) h = tested (n * up d * down e) (m * up e * down d) (eqb (m * up e * down d) (n * up d * down e)) (λ t. sym (eqb→eq (m * up e * down d) (n * up d * down e) t)) h
+at-most-of-le (fin true m e) (fin false n d) h = tt
+at-most-of-le (fin false m e) (fin true n d) h =
+    go (eqb (m * up e * down d) (n * up d * down e)) (eqb (m * up e * down d) 0) (eqb→eq (m * up e * down d) (n * up d * down e)) (eqb→eq (m * up e * down d) 0) h
+  where
+    go : (x y : Bool) → (T x → m * up e * down d ≡ n * up d * down e) → (T y → m * up e * down d ≡ 0) → T (false || (x && (false || y))) → (m * up e ≡ 0) × (n * up d ≡ 0)
+    go true true p q t = (none-of (m * up e) (down d) (down-pos d) (le-of-eq (q tt)), none-of (n * up d) (down e) (down-pos e) (le-of-eq (sym (p tt) ∙ q tt)))
+    go true false p q t = absurd t
+    go false y p q t = absurd t
+at-most-of-le (fin false m e) (fin false n d) h = tested (m * up e * down d) (n * up d * down e) (eqb (m * up e * down d) (n * up d * down e)) (eqb→eq (m * up e * down d) (n * up d * down e)) h

@@ -1,7 +1,7 @@
 -- The sign of what is rounded, of differences and of products. Assumes nothing.
 use mathlib.Core.Path.{_≡_, refl, sym, ap, subst, _∙_}
-use mathlib.Core.Bool.{Bool, true, false, not, _&&_, cond, true≢false}
-use Prim.Native.Nat.{ℕ, zero, suc, _+_, _-_, _*_, _^_, _≤_, _<_, zero-le}
+use mathlib.Core.Bool.{Bool, true, false, cond, true≢false}
+use Prim.Native.Nat.{ℕ, zero, suc, _+_, _-_, _*_, _^_, _≤_, _<_}
 use native.Mathlib.Nat.{zero-mul, mul-pos, mul-zero}
 use native.Mathlib.Omega.{arith}
 use lib.Dec.{ltb, eqb}
@@ -12,7 +12,7 @@ use lib.Ieee.{Float, nan, inf, fin, Format, binary64, low, emax, prec, up, down,
 use lib.Ieee.Fits.{up-pos, down-pos, round-is}
 use lib.Ieee.Exact.{HasValue, round-exact}
 use lib.Ieee.Order.{drop, kept}
-use Rattle.doubles.specs.Constants.{zeroF, tenF}
+use Rattle.doubles.specs.Constants.{zeroF}
 use Rattle.double_ranges.specs.Order.{AtMost}
 
 -- ---- `round` with the other sign
@@ -72,7 +72,7 @@ Down (inf t) = t ≡ true
 Down (fin true m e) = Unit
 Down (fin false m e) = m ≡ 0
 
-down-neg : (x : Float) → Plus x → Down (neg x)
+pub down-neg : (x : Float) → Plus x → Down (neg x)
 unfolding neg
 down-neg nan p = absurd p
 down-neg (inf true) p = absurd (true≢false p)
@@ -83,10 +83,10 @@ down-neg (fin false m e) p = tt
 pub round-down : (f : Format) (n d : ℕ) → Down (round f true n d)
 round-down f n d = subst Down (sym (round-neg f n d)) (down-neg (round f false n d) (round-plus f n d))
 
-round-zero : (f : Format) (s : Bool) (d : ℕ) → 0 < d → HasValue (round f s 0 d) s 0 d
+pub round-zero : (f : Format) (s : Bool) (d : ℕ) → 0 < d → HasValue (round f s 0 d) s 0 d
 round-zero f s d D = round-exact f s 0 d 0 0 D (pow-pos (prec f)) (pow-pos (low f + suc (emax f))) (zero-mul (2 ^ low f) ∙ sym (zero-mul d))
 
-down-zero : (x : Float) (s : Bool) (d : ℕ) → 0 < d → HasValue x s 0 d → Down x
+pub down-zero : (x : Float) (s : Bool) (d : ℕ) → 0 < d → HasValue x s 0 d → Down x
 down-zero nan s d D v = tt
 down-zero (inf t) s d D v = absurd v
 down-zero (fin true m e) s d D v = tt

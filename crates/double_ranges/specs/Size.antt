@@ -1,17 +1,19 @@
 -- Finite doubles of size 2 ^ k at most: what the operations make of them, whatever is rounded. Assumes nothing.
 use mathlib.Core.Path.{_≡_, refl, sym, ap, subst, _∙_}
-use mathlib.Core.Bool.{Bool, true, false, not, _&&_, _||_, cond, Bool·beq, true≢false}
-use Prim.Native.Nat.{ℕ, zero, suc, _+_, _-_, _*_, _^_, _≤_, _<_, zero-le}
-use native.Mathlib.Nat.{le-trans, le-of-eq, le-of-lt, lt-of-lt-of-le, le-of-mul-le-mul-right, mul-comm, mul-assoc, zero-lt-suc, zero-mul, mul-le-mul, mul-pos, mul-le-mul-right}
+use mathlib.Core.Bool.{Bool, true, false, _&&_, cond, Bool·beq, true≢false}
+use Prim.Native.Nat.{ℕ, suc, _+_, _-_, _*_, _^_, _≤_, _<_, zero-le}
+use native.Mathlib.Nat.{le-trans, le-of-eq, lt-of-lt-of-le, le-of-mul-le-mul-right, mul-assoc, zero-lt-suc, zero-mul, mul-le-mul, mul-pos, mul-le-mul-right}
 use native.Mathlib.Omega.{arith}
 use lib.Dec.{T, ltb, eqb, ltb→lt, eqb→eq}
 use lib.IntN.{ℤ, pos}
-use lib.Pow.{pow-pos, pow-add, pow-mono, pow-lt}
+use lib.Pow.{pow-add, pow-mono, pow-lt}
 use lib.Ieee.{Float, nan, inf, fin, binary64, low, emax, prec, unlike, up, down, round, neg, sum, add, sub, mul, div, le, ofInt}
 use lib.Ieee.Fits.{down-pos}
 use lib.Ieee.Exact.{HasValue, round-exact}
+use lib.Ieee.Back.{round-whole}
 use lib.Ieee.Order.{round-mono}
 use Rattle.doubles.specs.Shift.{AtLeast}
+use Rattle.double_ranges.specs.Order.{AtMost, tested}
 use Rattle.double_ranges.specs.Sign.{Plus, round-plus, round-neg}
 
 abbrev pub Size : ℕ → Float → Type 0
@@ -44,10 +46,9 @@ pow-value k h =
     times-one : (n : ℕ) → n * 1 ≡ n
     times-one n = omega arith
 
-le-of-test : (a b : ℕ) (x y : Bool) → (T x → a < b) → (T y → a ≡ b) → T (x || (y && true)) → a ≤ b
-le-of-test a b true y p q t = le-of-lt (p tt)
-le-of-test a b false true p q t = le-of-eq (q tt)
-le-of-test a b false false p q t = absurd t
+crossed : (m : ℕ) (e : ℤ) (n : ℕ) (d : ℤ) → T (le (fin false m e) (fin false n d)) → m * up e * down d ≤ n * up d * down e
+unfolding le
+crossed m e n d t = tested (m * up e * down d) (n * up d * down e) (eqb (m * up e * down d) (n * up d * down e)) (eqb→eq (m * up e * down d) (n * up d * down e)) t
 
 size-of-le : (k : ℕ) (z w : Float) → Plus z → HasValue w false (2 ^ k) 1 → T (le z w) → Size k z
 unfolding le
@@ -62,9 +63,7 @@ size-of-le k (fin false m e) (inf u) p v t = absurd v
 size-of-le k (fin false m e) (fin true n d) p v t = absurd (true≢false (v .0))
 size-of-le k (fin false m e) (fin false n d) p v t =
     let w : n * up d ≡ 2 ^ k * down d = omega (arith, v .1) in
-    let l = le-of-test (m * up e * down d) (n * up d * down e) (ltb (m * up e * down d) (n * up d * down e)) (eqb (m * up e * down d) (n * up d * down e))
-    (ltb→lt (m * up e * down d) (n * up d * down e)) (eqb→eq (m * up e * down d) (n * up d * down e)) t in
-    le-of-mul-le-mul-right (le-trans l (le-of-eq (ap (λ (z : ℕ). z * down e) w ∙ swapped (2 ^ k) (down d) (down e)))) (down-pos d)
+    le-of-mul-le-mul-right (le-trans (crossed m e n d t) (le-of-eq (ap (λ (z : ℕ). z * down e) w ∙ swapped (2 ^ k) (down d) (down e)))) (down-pos d)
   where
     swapped : (a b c : ℕ) → a * b * c ≡ a * c * b
     swapped a b c = omega arith
@@ -151,3 +150,76 @@ div-size k (fin s m e) (fin t n d) K p q = go (eqb n 0) (eqb→eq n 0)
 pub whole-size : (k n : ℕ) → k ≤ 1023 → n ≤ 2 ^ k → Size k (ofInt binary64 (pos n))
 unfolding ofInt
 whole-size k n K h = round-size k false n 1 K (zero-lt-suc 0) (omega arith)
+
+-- ---- signs of finite values
+
+pub add-plus : (a b : ℕ) (x y : Float) → Size a x → Size b y → Plus x → Plus y → Plus (add binary64 x y)
+unfolding add sum
+add-plus a b nan y p q u v = absurd p
+add-plus a b (inf s) y p q u v = absurd p
+add-plus a b (fin s m e) nan p q u v = absurd q
+add-plus a b (fin s m e) (inf t) p q u v = absurd q
+add-plus a b (fin true m e) (fin t n d) p q u v = absurd (true≢false u)
+add-plus a b (fin false m e) (fin true n d) p q u v = absurd (true≢false v)
+add-plus a b (fin false m e) (fin false n d) p q u v = round-plus binary64 (m * up e * down d + n * up d * down e) (down e * down d)
+
+pub mul-plus : (a b : ℕ) (x y : Float) → Size a x → Size b y → Plus x → Plus y → Plus (mul binary64 x y)
+unfolding mul
+mul-plus a b nan y p q u v = absurd p
+mul-plus a b (inf s) y p q u v = absurd p
+mul-plus a b (fin s m e) nan p q u v = absurd q
+mul-plus a b (fin s m e) (inf t) p q u v = absurd q
+mul-plus a b (fin true m e) (fin t n d) p q u v = absurd (true≢false u)
+mul-plus a b (fin false m e) (fin true n d) p q u v = absurd (true≢false v)
+mul-plus a b (fin false m e) (fin false n d) p q u v = round-plus binary64 (m * up e * (n * up d)) (down e * down d)
+
+pub div-plus : (a : ℕ) (x y : Float) → Size a x → Plus x → AtLeast 1 y → Plus (div binary64 x y)
+unfolding div
+div-plus a nan y p u q = absurd p
+div-plus a (inf s) y p u q = absurd p
+div-plus a (fin true m e) y p u q = absurd (true≢false u)
+div-plus a (fin false m e) nan p u q = absurd q
+div-plus a (fin false m e) (inf true) p u q = absurd (true≢false q)
+div-plus a (fin false m e) (inf false) p u q = refl
+div-plus a (fin false m e) (fin true n d) p u q = absurd (true≢false (q .0))
+div-plus a (fin false m e) (fin false n d) p u q = go (eqb n 0) (eqb→eq n 0)
+  where
+    go : (z : Bool) → (T z → n ≡ 0) → Plus (cond z (cond (eqb m 0) nan (inf false)) (round binary64 false (m * up e * down d) (n * up d * down e)))
+    go true f = absurd (omega (arith, q .1, down-pos d, ap (λ (z : ℕ). z * up d) (f tt) ∙ zero-mul (up d)))
+    go false f = round-plus binary64 (m * up e * down d) (n * up d * down e)
+
+pub sub-plus : (a b : ℕ) (x y : Float) → Size a x → Size b y → Plus x → Plus y → AtMost y x → Plus (sub binary64 x y)
+unfolding sub add neg sum
+sub-plus a b nan y p q u v h = absurd p
+sub-plus a b (inf s) y p q u v h = absurd p
+sub-plus a b (fin s m e) nan p q u v h = absurd q
+sub-plus a b (fin s m e) (inf t) p q u v h = absurd q
+sub-plus a b (fin true m e) (fin t n d) p q u v h = absurd (true≢false u)
+sub-plus a b (fin false m e) (fin true n d) p q u v h = absurd (true≢false v)
+sub-plus a b (fin false m e) (fin false n d) p q u v h = go (ltb (m * up e * down d) (n * up d * down e)) (ltb→lt (m * up e * down d) (n * up d * down e))
+  where
+    go : (z : Bool) → (T z → m * up e * down d < n * up d * down e)
+        → Plus (cond z (round binary64 true (n * up d * down e - m * up e * down d) (down e * down d)) (round binary64 false (m * up e * down d - n * up d * down e) (down e * down d)))
+    go true f = absurd (omega (arith, f tt))
+    go false f = round-plus binary64 (m * up e * down d - n * up d * down e) (down e * down d)
+
+-- a fraction that is the whole number k at least rounds to what is k at least
+swap : (x y z : ℕ) → x * y * z ≡ x * z * y
+swap x y z = omega arith
+
+value : (a b k c : ℕ) → a * b * 1 ≡ k * c → a * b ≡ k * c
+value a b k c h = omega arith
+
+pub at-of-le : (k : ℕ) (w z : Float) → HasValue w false k 1 → Plus z → T (le w z) → AtLeast k z
+at-of-le k nan z v p t = absurd v
+at-of-le k (inf s) z v p t = absurd v
+at-of-le k (fin true a b) z v p t = absurd (true≢false (v .0))
+at-of-le k (fin false a b) nan v p t = absurd p
+at-of-le k (fin false a b) (inf s) v p t = p
+at-of-le k (fin false a b) (fin true m e) v p t = absurd (true≢false p)
+at-of-le k (fin false a b) (fin false m e) v p t =
+    (refl, le-of-mul-le-mul-right (le-trans (le-of-eq (swap k (down e) (down b) ∙ ap (λ (z : ℕ). z * down e) (sym (value a (up b) k (down b) (v .1))))) (crossed a b m e t)) (down-pos b))
+
+pub round-at-least : (k n d : ℕ) → k ≤ 2 ^ 53 → 0 < d → k * d ≤ n → AtLeast k (round binary64 false n d)
+round-at-least k n d L D h =
+    at-of-le k (round binary64 false k 1) (round binary64 false n d) (round-whole binary64 false k L) (round-plus binary64 n d) (round-mono binary64 k 1 n d (zero-lt-suc 0) D (omega arith))

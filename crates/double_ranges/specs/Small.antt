@@ -1,11 +1,10 @@
 -- Values of size 1 at most, with a sign: products, quotients by what is 1 at least, and 1 less such a value are of size 1 at most too, whatever is
 -- rounded. So what a program computes as 1 - z, from a z in 0 to 1, is in 0 to 1. Assumes nothing.
 use mathlib.Core.Path.{_≡_, refl, sym, ap, _∙_, subst}
-use Prim.Native.Nat.{ℕ, zero, suc, _+_, _-_, _*_, _^_, _≤_, _<_, zero-le}
-use native.Mathlib.Nat.{le-trans, le-of-eq, le-of-lt, le-of-mul-le-mul-right, mul-comm, lt-of-lt-of-le, zero-lt-suc, zero-mul, mul-le-mul, mul-pos}
+use Prim.Native.Nat.{ℕ, _-_, _*_, _≤_, _<_, zero-le}
+use native.Mathlib.Nat.{le-trans, le-of-eq, le-of-mul-le-mul-right, mul-comm, lt-of-lt-of-le, zero-lt-suc, zero-mul, mul-le-mul, mul-pos}
 use native.Mathlib.Omega.{arith}
-use mathlib.Core.Bool.{Bool, true, false, not, _&&_, _||_, cond, true≢false}
-use lib.IntN.{ℤ}
+use mathlib.Core.Bool.{Bool, true, false, not, cond, true≢false}
 use lib.Dec.{T, ltb, eqb, ltb→lt, eqb→eq}
 use lib.Ieee.{Float, nan, inf, fin, Format, binary64, prec, unlike, up, down, round, neg, sum, add, sub, mul, div, le, ofBits}
 use lib.Pow.{pow-pos}
@@ -15,6 +14,7 @@ use lib.Ieee.Back.{round-whole}
 use lib.Ieee.Order.{round-mono, le-of-values}
 use Rattle.doubles.specs.Constants.{zeroF, oneF}
 use Rattle.doubles.specs.Shift.{AtLeast}
+use Rattle.double_ranges.specs.Order.{tested}
 use Rattle.double_ranges.specs.Sign.{Plus, round-plus, round-neg}
 
 abbrev pub Small : Bool → Float → Type 0
@@ -23,14 +23,6 @@ Small s (inf t) = ⊥
 Small s (fin t m e) = (t ≡ s) × (m * up e ≤ down e)
 
 -- ---- a fraction up to 1 rounds to a value up to 1
-
-pub le-of-test : (a b : ℕ) → T (ltb a b || (eqb a b && true)) → a ≤ b
-le-of-test a b t = go (ltb a b) (eqb a b) (ltb→lt a b) (eqb→eq a b) t
-  where
-    go : (x y : Bool) → (T x → a < b) → (T y → a ≡ b) → T (x || (y && true)) → a ≤ b
-    go true y p q t = le-of-lt (p tt)
-    go false true p q t = le-of-eq (q tt)
-    go false false p q t = absurd t
 
 small-of-le : (z w : Float) → Plus z → HasValue w false 1 1 → T (le z w) → Small false z
 unfolding le
@@ -45,7 +37,7 @@ small-of-le (fin false m e) (inf u) p v t = absurd v
 small-of-le (fin false m e) (fin true n d) p v t = absurd (true≢false (v .0))
 small-of-le (fin false m e) (fin false n d) p v t =
     let w : n * up d ≡ down d = omega (arith, v .1) in
-    (refl, le-of-mul-le-mul-right (le-trans (le-of-test (m * up e * down d) (n * up d * down e) t) (le-of-eq (ap (λ (z : ℕ). z * down e) w ∙ mul-comm (down d) (down e)))) (down-pos d))
+    (refl, le-of-mul-le-mul-right (le-trans (tested (m * up e * down d) (n * up d * down e) (eqb (m * up e * down d) (n * up d * down e)) (eqb→eq (m * up e * down d) (n * up d * down e)) t) (le-of-eq (ap (λ (z : ℕ). z * down e) w ∙ mul-comm (down d) (down e)))) (down-pos d))
 
 pub neg-small : (s : Bool) (x : Float) → Small s x → Small (not s) (neg x)
 unfolding neg

@@ -5,7 +5,7 @@ use native.Mathlib.Nat.{le-trans, le-refl, zero-lt-suc, mul-pos}
 use native.Mathlib.Omega.{arith}
 use mathlib.Core.Bool.{Bool, true, false, not, cond}
 use lib.IntN.{ℤ, pos}
-use lib.Dec.{T, nltb→le, lit≤}
+use lib.Dec.{T, eqb, eqb→eq, nltb→le, lit≤}
 use lib.Ieee.{Float, nan, inf, fin, binary64, up, down, round, neg, add, sub, mul, div, lt, le, ofBits, ofInt, fits}
 use lib.Ieee.Fits.{up-pos, down-pos}
 use lib.Ieee.Exact.{HasValue}
@@ -13,7 +13,10 @@ use lib.Ieee.Back.{round-whole, whole-unique}
 use Rattle.lists.specs.Loops as Loops
 use Rattle.doubles.specs.Constants.{zeroF, oneF}
 use Rattle.doubles.specs.Shift.{AtLeast}
-use Rattle.double_ranges.specs.Small.{Small, mul-small, div-small, one-plus, one-less, round-small, unit-of-small, le-of-test}
+use Rattle.double_ranges.specs.Order.{tested}
+use Rattle.double_ranges.specs.Sign.{Plus}
+use Rattle.double_ranges.specs.Size.{Size}
+use Rattle.double_ranges.specs.Small.{Small, mul-small, div-small, one-plus, one-less, round-small, unit-of-small}
 use Rattle.elementary.specs.Exp.{lowest, reduced, expTerm, square, expOf}
 
 -- what each turn keeps, all keep
@@ -80,7 +83,7 @@ exp-small (inf true) t h = infinite-small
 exp-small (inf false) t h = absurd h
 exp-small (fin true m e) t h = negative-small m e
 exp-small (fin false zero e) t h = subst (λ (z : Float). Small false (expOf z)) (sym (whole-unique binary64 (fin false 0 e) (fin false 0 (pos 0)) false 0 t (unfold fits in tt) (refl, omega arith) (refl, refl))) at-zero
-exp-small (fin false (suc m) e) t h = absurd (omega (arith, mul-pos (zero-lt-suc m) (up-pos e), le-of-test (suc m * up e * 1) (0 * down e) h))
+exp-small (fin false (suc m) e) t h = absurd (omega (arith, mul-pos (zero-lt-suc m) (up-pos e), tested (suc m * up e * 1) (0 * down e) (eqb (suc m * up e * 1) (0 * down e)) (eqb→eq (suc m * up e * 1) (0 * down e)) h))
 
 -- as a program tests it
 pub exp-unit : (x : Float) → T (fits binary64 x) → T (le x zeroF) → T (le zeroF (expOf x)) × T (le (expOf x) oneF)
@@ -88,3 +91,13 @@ exp-unit x t h = unit-of-small (expOf x) (exp-small x t h)
 
 pub less-exp-unit : (x : Float) → T (fits binary64 x) → T (le x zeroF) → T (le zeroF (sub binary64 oneF (expOf x))) × T (le (sub binary64 oneF (expOf x)) oneF)
 less-exp-unit x t h = unit-of-small (sub binary64 oneF (expOf x)) (one-less (expOf x) (exp-small x t h))
+
+-- ---- the factor of 10 to x
+
+pub ln10-size : Size 2 (ofBits binary64 0x4002_6bb1_bbb5_5516)
+unfolding ofBits
+ln10-size = lit≤ tt
+
+pub ln10-plus : Plus (ofBits binary64 0x4002_6bb1_bbb5_5516)
+unfolding ofBits
+ln10-plus = refl

@@ -3,3 +3,5 @@ pub mod Ln
 pub mod LnGamma
 pub mod Scaling
 pub mod ExpRange
+pub mod LnRange
+pub mod GammaRange

@@ -2,3 +2,4 @@ pub mod Settings
 pub mod Observation
 pub mod Contribution
 pub mod Likelihoods
+pub mod Lengths

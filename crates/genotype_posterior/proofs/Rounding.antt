@@ -1,5 +1,5 @@
 -- The value that is rounded to a PL is never below 0, whatever the likelihoods are: so its whole part is its floor. Assumes nothing.
-use mathlib.Core.Path.{_≡_, refl, sym, ap, subst, _∙_}
+use mathlib.Core.Path.{_≡_, refl, sym, ap, subst}
 use mathlib.Core.Bool.{Bool, true, false, not, _&&_, _||_, cond, Bool·beq, false≢true}
 use mathlib.Core.List.{List, [], _∷_}
 use Prim.Native.Nat.{ℕ, zero, suc, _*_, _<_}
@@ -7,11 +7,11 @@ use native.Mathlib.Nat.{not-suc-le-zero, le-of-suc-le-suc}
 use lib.Dec.{eqb}
 use lib.IntN.{pos}
 use lib.ListN.{length, getD}
-use lib.Ieee.{Float, nan, inf, fin, binary64, up, down, add, sub, mul, neg, lt, eq, ne, ofBits}
+use lib.Ieee.{Float, nan, inf, fin, binary64, up, down, add, sub, neg, lt, eq, ne, ofBits}
 use borrow.Author.Tests.{eq-eqb}
 use Rattle.lists.specs.Loops.{foldl}
 use Rattle.lists.specs.Tests.{beq-refl}
-use Rattle.doubles.specs.Constants.{zeroF, tenF}
+use Rattle.doubles.specs.Constants.{zeroF}
 use Rattle.double_ranges.specs.Order.{AtMost, Number, at-most-trans, at-most-refl, at-most-of-lt, at-most-of-not-lt}
 use Rattle.double_ranges.specs.Sign.{Down, sub-down, mul-down}
 use Rattle.genotype_posterior.specs.Phred.{maxF, adjust, scaled}

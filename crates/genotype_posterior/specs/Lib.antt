@@ -1,2 +1,4 @@
 pub mod Phred
 pub mod Posterior
+pub mod PriorRange
+pub mod Probability

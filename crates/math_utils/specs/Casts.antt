@@ -1,14 +1,14 @@
 -- Laws of Rust's `as` from a double to an unsigned number, `toUnsigned`: 0 for a NaN, and the nearest end where the double is out of range.
 -- Assumes nothing.
-use mathlib.Core.Path.{_≡_, refl, sym, ap, subst, _∙_}
-use mathlib.Core.Bool.{Bool, true, false, cond, not}
-use Prim.Native.Nat.{ℕ, zero, suc, _+_, _-_, _*_, _/_, _^_, _<_, _≤_, min}
+use mathlib.Core.Path.{_≡_, refl, sym, subst}
+use mathlib.Core.Bool.{true, false}
+use Prim.Native.Nat.{ℕ, suc, _+_, _-_, _*_, _/_, _^_, _<_, _≤_, min}
 use native.Mathlib.Omega.{arith}
 use native.Mathlib.Nat.{le-div-iff-mul-le}
 use lib.IntN.{ℤ, pos, negsuc}
 use lib.Pow.{pow-pos}
-use lib.Dec.{T, ltb, leb}
-use borrow.Author.Tests.{ltb-false, ltb-true}
+use lib.Dec.{T}
+use borrow.Author.Tests.{ltb-false}
 use lib.Ieee.{Float, nan, inf, fin, binary64, ofBits, lt, neg, toUnsigned, up, down}
 
 down-pos : (e : ℤ) → 0 < down e

@@ -4,7 +4,7 @@ use mathlib.Core.Path.{_∙_, _≡_, sym}
 use native.Mathlib.Omega.{arith}
 use lib.ListN.{drop, getD, length}
 use borrow.Author.Needs.{needs}
-use Rattle.genotype_likelihoods.proofs.Words.{counted-le, length-taken}
+use Rattle.genotype_likelihoods.specs.Lengths.{counted-le, length-taken}
 use Rattle.genotype_likelihoods.specs.Likelihoods.{counted, taken}
 use Rattle.lists.specs.Loops.{foldl, foldl-end, foldl-turn}
 use Rattle.genotype_likelihoods.proofs.likelihoods.take_words.Statement.{statement}

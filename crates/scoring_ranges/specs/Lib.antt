@@ -1,0 +1,2 @@
+pub mod LogArguments
+pub mod Qualities
