@@ -1,6 +1,8 @@
-//! Prints lists of the oracle's answers, which the replay programs compare with the proved library's (docs/LISTS.md).
+//! Prints lists of the oracle's answers, which the replay programs compare with the proved library's (docs/LISTS.md), and what the region program prints
+//! for the words on standard input.
 //!
 //!     oracle NAME SEED COUNT > FILE
+//!     oracle region < WORDS
 #![allow(dead_code)]
 #![allow(clippy::all)]
 
@@ -14,18 +16,25 @@ mod makings;
 mod minimal_genotyping;
 mod random;
 mod refusals;
+mod region;
 mod runs;
 mod scores;
 mod stand_ins;
 
 use stand_ins::{bio_ids, read_binding, read_model, read_projection};
-use std::io::Write;
+use std::io::{Read, Write};
 
 fn main() {
     let words: Vec<String> = std::env::args().skip(1).collect();
+    if words == ["region"] {
+        let mut input = Vec::new();
+        std::io::stdin().read_to_end(&mut input).expect("standard input is read");
+        print!("{}", region::printed(&input));
+        return;
+    }
     let number = |i: usize| words.get(i).and_then(|w| w.parse::<u64>().ok());
     let (Some(name), Some(seed), Some(count)) = (words.first(), number(1), number(2)) else {
-        eprintln!("usage: oracle elementary|kernel|runs|calls|clips|scores|sums SEED COUNT > FILE");
+        eprintln!("usage: oracle elementary|kernel|runs|calls|clips|scores|sums SEED COUNT > FILE, or oracle region < WORDS");
         std::process::exit(2);
     };
     let mut out = std::io::BufWriter::new(std::io::stdout().lock());

@@ -7,13 +7,19 @@ use crate::refusals::Settings;
 use std::io::Write;
 
 /// The Rust's profile beside the cells that document 01 speaks of.
-struct Rust {
+pub struct Rust {
     profile: BandPassActivityProfile,
     cells: Vec<f64>,
 }
 
 impl Rust {
-    fn add(&mut self, s: State) {
+    /// A fresh profile, over cells that hold what document 01's do.
+    pub fn new(contig: u32, s: &Settings, cells: &[f64]) -> Self {
+        let profile = BandPassActivityProfile::new(contig.to_string(), s.contig_len.into(), s.params());
+        Self { profile, cells: cells.to_vec() }
+    }
+
+    pub fn add(&mut self, s: State) {
         let evidence = s.clips.map_or(ActivityEvidence::Plain, |clip_bases| ActivityEvidence::HighQualitySoftClips { clip_bases });
         let state = ActivityProfileState {
             contig: s.contig.to_string().into(),
@@ -26,7 +32,7 @@ impl Rust {
         self.read_cells();
     }
 
-    fn pop(&mut self, sizes: Sizes) -> Option<Region> {
+    pub fn pop(&mut self, sizes: Sizes) -> Option<Region> {
         let held = self.profile.len();
         let popped = self
             .profile
@@ -52,7 +58,7 @@ impl Rust {
     }
 
     /// The Rust's state is what document 01's rules gave.
-    fn agree(&self, record: &Record, cells: &[f64]) {
+    pub fn agree(&self, record: &Record, cells: &[f64]) {
         assert_eq!(self.profile.region_start().unwrap_or(0), u64::from(record.start));
         assert_eq!(self.profile.last_input_pos().unwrap_or(0), u64::from(record.last));
         assert_eq!(self.profile.len(), record.count as usize);
@@ -158,8 +164,7 @@ fn run(r: &mut Random, calls: u64, out: &mut impl Write) {
     let mut record =
         Record { contig, contig_len: s.contig_len, distance: s.distance, threshold: s.threshold, filter, start: 0, last: 0, count: 0 };
     let mut cells: Vec<f64> = (0..n as u64).map(|i| f64::from_bits(fill + i)).collect();
-    let mut rust =
-        Rust { profile: BandPassActivityProfile::new(contig.to_string(), s.contig_len.into(), s.params()), cells: cells.clone() };
+    let mut rust = Rust::new(contig, &s, &cells);
     let mut answer = Answer::of(Function::Run)
         .word(contig.into())
         .word(s.contig_len.into())

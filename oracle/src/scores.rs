@@ -5,6 +5,7 @@ use crate::activity_scoring::{
     HaplotypeCallerActivityScoringParams, PileupObservation,
 };
 use crate::bio_ids::Ploidy;
+use crate::document::State;
 use crate::list::{Answer, Function};
 use crate::random::Random;
 use crate::refusals::{scoring_refusal, MAX_POSITION};
@@ -22,17 +23,19 @@ pub struct Scoring {
     pub flow: bool,
 }
 
-const DEFAULT: Scoring = Scoring {
-    min_qual: 10,
-    ploidy: 2,
-    heterozygosity: 1e-3,
-    deviation: 0.01,
-    deletion_qual: 30,
-    alt_multiplier: 1.0,
-    flow: false,
-};
+const DEFAULT: Scoring = Scoring::DEFAULT;
 
 impl Scoring {
+    pub const DEFAULT: Self = Self {
+        min_qual: 10,
+        ploidy: 2,
+        heterozygosity: 1e-3,
+        deviation: 0.01,
+        deletion_qual: 30,
+        alt_multiplier: 1.0,
+        flow: false,
+    };
+
     fn params(&self) -> HaplotypeCallerActivityScoringParams {
         HaplotypeCallerActivityScoringParams {
             min_base_quality_score: self.min_qual,
@@ -63,11 +66,27 @@ fn observation(w: u32) -> PileupObservation {
     }
 }
 
+/// The Rust's score of a pile that is not refused.
+pub fn score(s: &Scoring, contig: u32, position: u32, pile: &[u32]) -> State {
+    let observations: Vec<PileupObservation> = pile.iter().map(|&w| observation(w)).collect();
+    let state = haplotype_caller_activity_profile_state_single_sample(contig.to_string(), position.into(), &observations, &s.params());
+    State {
+        contig,
+        pos: position,
+        probability: state.active_prob,
+        original: state.original_active_prob,
+        clips: match state.evidence {
+            ActivityEvidence::Plain => None,
+            ActivityEvidence::HighQualitySoftClips { clip_bases } => Some(clip_bases),
+        },
+    }
+}
+
 /// The answer of a pile of `depth` words, of which word i is words[i % k].
 fn score_answer(s: Scoring, position: u32, depth: usize, words: &[u32], out: &mut impl Write) {
     let contig = 7;
     let mut answer = Answer::of(Function::Score)
-        .word(contig)
+        .word(contig.into())
         .word(position.into())
         .word(s.min_qual.into())
         .word(s.ploidy.into())
@@ -85,12 +104,8 @@ fn score_answer(s: Scoring, position: u32, depth: usize, words: &[u32], out: &mu
     let refusal = scoring_refusal(&s, position, &pile);
     answer = answer.word(refusal);
     if refusal == 0 {
-        let observations: Vec<PileupObservation> = pile.iter().map(|&w| observation(w)).collect();
-        let state = haplotype_caller_activity_profile_state_single_sample("7", position.into(), &observations, &s.params());
-        answer = answer.double(state.active_prob).double(state.original_active_prob).word(match state.evidence {
-            ActivityEvidence::Plain => 0,
-            ActivityEvidence::HighQualitySoftClips { clip_bases } => u64::from(clip_bases) + 1,
-        });
+        let state = score(&s, contig, position, &pile);
+        answer = answer.double(state.probability).double(state.original).word(state.clips.map_or(0, |n| u64::from(n) + 1));
     }
     answer.write(out);
 }

@@ -1,0 +1,200 @@
+//! The region program as document 01 words it: words in, lines out. Scores are the Rust's; each accepted add and each pop goes through the Rust's profile
+//! and through document 01's rules, which have to agree.
+use crate::document::{self, Popped, Record, Sizes, State};
+use crate::refusals::{scoring_refusal, Settings, MAX_POSITION};
+use crate::runs::Rust;
+use crate::scores::{score, Scoring};
+
+const CELLS: usize = 4096;
+const CONTIG: u32 = 0;
+
+/// A refusal: its number and the index of the word that it names.
+struct Refusal(u64, u64);
+
+/// The open pile: the index of its locus word, its position and its words.
+struct Pile {
+    index: u64,
+    position: u32,
+    words: Vec<u32>,
+}
+
+struct Profile {
+    record: Record,
+    kernel: Vec<f64>,
+    cells: Vec<f64>,
+    rust: Rust,
+}
+
+impl Profile {
+    fn new(s: &Settings) -> Self {
+        let (filter, kernel) = s.params().resolved_filter_and_kernel();
+        let record = Record {
+            contig: CONTIG,
+            contig_len: s.contig_len,
+            distance: s.distance,
+            threshold: s.threshold,
+            filter,
+            start: 0,
+            last: 0,
+            count: 0,
+        };
+        let cells = vec![0.0; CELLS];
+        let rust = Rust::new(CONTIG, s, &cells);
+        Self { record, kernel, cells, rust }
+    }
+
+    fn add(&mut self, state: State) -> u64 {
+        let refusal = document::add(&mut self.record, state, &self.kernel, &mut self.cells);
+        if refusal == 0 {
+            self.rust.add(state);
+        }
+        refusal
+    }
+
+    fn pop(&mut self, sizes: Sizes) -> Popped {
+        let popped = document::pop(&mut self.record, sizes, &mut self.cells);
+        match popped {
+            Popped::Region(region) => assert_eq!(self.rust.pop(sizes), Some(region)),
+            Popped::Held | Popped::Empty => assert_eq!(self.rust.pop(sizes), None),
+            Popped::Refused(_) => {}
+        }
+        self.rust.agree(&self.record, &self.cells);
+        popped
+    }
+}
+
+struct Program {
+    settings: Settings,
+    min: u32,
+    max: u32,
+    extension: u32,
+    /// Made at the first locus word, which closes the settings.
+    profile: Option<Profile>,
+    pile: Option<Pile>,
+    lines: String,
+}
+
+impl Program {
+    fn new() -> Self {
+        let settings =
+            Settings { contig_len: MAX_POSITION, distance: 50, threshold: 0.002, max_filter: 50, sigma: 17.0, adaptive: true };
+        Self { settings, min: 50, max: 300, extension: 100, profile: None, pile: None, lines: String::new() }
+    }
+
+    /// "A pile is scored and added when it ends .. its refusals name its locus word."
+    fn end_pile(&mut self) -> Result<(), Refusal> {
+        let Some(pile) = self.pile.take() else {
+            return Ok(());
+        };
+        let refused = |n| Err(Refusal(n, pile.index));
+        let scoring = Scoring::DEFAULT;
+        let refusal = scoring_refusal(&scoring, pile.position, &pile.words);
+        if refusal != 0 {
+            return refused(refusal);
+        }
+        let state = score(&scoring, CONTIG, pile.position, &pile.words);
+        let profile = self.profile.as_mut().expect("a locus word came before");
+        match profile.add(state) {
+            0 => Ok(()),
+            n => refused(n),
+        }
+    }
+
+    /// "Kind 2: pop until held or empty, value 0 unforced, 1 forced."
+    fn pops(&mut self, forced: bool, index: u64) -> Result<(), Refusal> {
+        let sizes = Sizes { extension: self.extension, min: self.min, max: self.max, forced };
+        let Some(profile) = self.profile.as_mut() else {
+            return if sizes.min == 0 || sizes.max == 0 { Err(Refusal(11, index)) } else { Ok(()) };
+        };
+        loop {
+            match profile.pop(sizes) {
+                Popped::Region(r) => {
+                    let active = u32::from(r.active);
+                    self.lines += &format!("{} {} {active} {} {}\n", r.start, r.end, r.padded_start, r.padded_end);
+                }
+                Popped::Held | Popped::Empty => return Ok(()),
+                Popped::Refused(n) => return Err(Refusal(n, index)),
+            }
+        }
+    }
+
+    /// "Kind 3, only before the first locus: bits 29-24 field, 23-0 value .. Values are range-checked, and refused 1, at their word."
+    fn set(&mut self, w: u32, index: u64) -> Result<(), Refusal> {
+        let value = w & 0xff_ffff;
+        if self.profile.is_some() {
+            return Err(Refusal(3, index));
+        }
+        match w >> 24 & 63 {
+            1 => self.max = value,
+            2 => self.min = value,
+            3 => self.extension = value,
+            4 => self.settings.distance = value,
+            5 => self.settings.max_filter = value,
+            6 => self.settings.contig_len = value,
+            _ => return Err(Refusal(3, index)),
+        }
+        if self.settings.in_range() {
+            Ok(())
+        } else {
+            Err(Refusal(1, index))
+        }
+    }
+
+    fn word(&mut self, w: u32, index: u64) -> Result<(), Refusal> {
+        let value = w & 0x3fff_ffff;
+        match w >> 30 {
+            0 => {
+                self.end_pile()?;
+                if self.profile.is_none() {
+                    self.profile = Some(Profile::new(&self.settings));
+                }
+                self.pile = Some(Pile { index, position: value, words: Vec::new() });
+                Ok(())
+            }
+            1 => match self.pile.as_mut() {
+                Some(pile) => {
+                    // a pile that is too deep is refused whatever its further words are
+                    if pile.words.len() <= 16_384 {
+                        pile.words.push(w);
+                    }
+                    Ok(())
+                }
+                None => Err(Refusal(3, index)),
+            },
+            2 => {
+                self.end_pile()?;
+                if value > 1 {
+                    return Err(Refusal(3, index));
+                }
+                self.pops(value == 1, index)
+            }
+            _ => self.set(w, index),
+        }
+    }
+
+    fn run(&mut self, input: &[u8]) -> Result<(), Refusal> {
+        let words = input.chunks_exact(4);
+        let remainder = !words.remainder().is_empty();
+        let mut index = 0;
+        for bytes in words {
+            self.word(u32::from_le_bytes([bytes[0], bytes[1], bytes[2], bytes[3]]), index)?;
+            index += 1;
+        }
+        self.end_pile()?;
+        if remainder {
+            return Err(Refusal(3, index));
+        }
+        Ok(())
+    }
+}
+
+/// What the program prints for this input.
+pub fn printed(input: &[u8]) -> String {
+    let mut program = Program::new();
+    let end = program.run(input);
+    let mut lines = program.lines;
+    if let Err(Refusal(number, index)) = end {
+        lines += &format!("refused {number} {index}\n");
+    }
+    lines
+}
