@@ -24,7 +24,7 @@ cap = ofBits binary64 0x41df_ffff_ffc0_0000
 abbrev pub adjust : List Float → Float
 adjust gl = foldl maxF (inf true) gl
 
--- the value capped, plus 0.5, without its fraction: from 0 to 2147483647. A value is never below 0 (`scaled-not-below-0`), so that is its floor
+-- the value capped, plus 0.5, without its fraction: from 0 to 2147483647. A value is never below 0 (`scaled-not-below`), so that is its floor
 unfoldable pub plOf : Float → ℕ
 plOf value = toUnsigned 31 (add binary64 (minF value cap) halfF)
 
