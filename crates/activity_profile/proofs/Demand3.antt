@@ -1,10 +1,10 @@
 -- Demand 3: nobody who feeds a profile can lose a locus, see it twice or have it held without limit. Assumes nothing.
-use Prim.Native.Nat.{ℕ, suc, _+_, _-_, _≤_, _<_}
+use Prim.Native.Nat.{ℕ, _+_, _-_, _≤_, _<_}
 use mathlib.Core.Path.{_≡_, refl, _∙_}
 use mathlib.Core.Bool.{Bool}
 use mathlib.Core.List.{List, [], _∷_, _++_, append-nil, append-assoc}
 use native.Mathlib.Omega.{arith}
-use lib.ListN.{length, take, drop}
+use lib.ListN.{length, drop}
 use lib.Ieee.{nan}
 use lib.Seq.{getD-take, drop-append-seam}
 use lib.Ieee.{Float}
@@ -14,17 +14,17 @@ use Rattle.activity_profile.specs.declared.ActivityProfileRegion.{Activi
 use Rattle.genome.specs.Refusals.{answered}
 use Rattle.band_pass_kernel.specs.declared.BandPassActivityProfileParams.{BandPassActivityProfileParams}
 use Rattle.activity_profile.specs.Making.{making}
-use Rattle.activity_profile.specs.Loci.{loci, cell}
+use Rattle.activity_profile.specs.Loci.{cell}
 use Rattle.activity_profile.specs.Verdict.{Verdict, refusal, granted}
 use Rattle.activity_profile.specs.Profile.{waiting}
 use Rattle.activity_profile.specs.Add.{at, addVerdict, addedProfile, addAnswerBy, addAnswer}
-use Rattle.activity_profile.specs.Pop.{Turn, empty, held, ready, popVerdict, turn, kept, above, popSize, regionOf, rest, heldPop, regionPop, popAnswerBy, popAnswer}
+use Rattle.activity_profile.specs.Pop.{Turn, empty, held, ready, popVerdict, turn, kept, above, popSize, regionOf, heldPop, regionPop, popAnswerBy, popAnswer}
 use Rattle.activity_profile.specs.Run.{Call, Add, Pop, lastOf, Lent, afterAdd, afterPop, step, locusOf, lociOf, acceptedBy, poppedBy, after, acceptedIn, poppedIn, Sound, Faithful}
 use Rattle.activity_profile.proofs.Loci.{length-loci, lastOf-loci}
 use Rattle.activity_profile.proofs.Fresh.{fresh-is}
 use Rattle.activity_profile.proofs.Facts.{held-is}
 use Rattle.activity_profile.proofs.Steps.{waiting-none, waiting-some, add-joins, rest-waiting, rest-ahead, rest-settings, cut-reach}
-use Rattle.activity_profile.proofs.Cuts.{Cut, cut-is}
+use Rattle.activity_profile.proofs.Cuts.{cut-is}
 
 -- ---- the invariant, between any two calls
 

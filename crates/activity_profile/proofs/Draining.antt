@@ -1,7 +1,7 @@
 -- A pop answers "empty" only of a record that holds nothing, and a forced pop of one that holds loci always answers a region: so forced pops
 -- get every locus out, in at most as many pops as loci wait. Assumes nothing.
 use mathlib.Core.Path.{_≡_, refl, sym, ap, _∙_}
-use mathlib.Core.Bool.{Bool, true, false, cond}
+use mathlib.Core.Bool.{Bool, true}
 use mathlib.Core.List.{List, [], _∷_, _++_, append-nil, append-assoc}
 use Prim.Native.Nat.{ℕ, zero, suc, _+_, _-_, _≤_, _<_}
 use native.Mathlib.Omega.{arith}
@@ -14,11 +14,11 @@ use Rattle.band_pass_kernel.specs.declared.BandPassActivityProfileParams.{BandP
 use Rattle.activity_profile.specs.declared.BandPassActivityProfile.{BandPassActivityProfile}
 use Rattle.activity_profile.specs.declared.ActivityProfileRegion.{ActivityProfileRegion}
 use Rattle.activity_profile.specs.Making.{making}
-use Rattle.activity_profile.specs.Loci.{loci, cell}
+use Rattle.activity_profile.specs.Loci.{cell}
 use Rattle.activity_profile.specs.Verdict.{Verdict, refusal, granted}
-use Rattle.activity_profile.specs.Profile.{waiting, broken}
+use Rattle.activity_profile.specs.Profile.{waiting}
 use Rattle.activity_profile.specs.Pop.{Turn, empty, held, ready, popVerdict, tooFew, turn, kept, above, popSize, regionOf, rest, emptyPop, regionPop, popAnswerBy, popAnswer}
-use Rattle.activity_profile.specs.Run.{Call, Pop, Lent, lociOf, step, acceptedBy, poppedBy, after, acceptedIn, poppedIn}
+use Rattle.activity_profile.specs.Run.{Call, Pop, Lent, step, acceptedBy, poppedBy, after, acceptedIn, poppedIn}
 use Rattle.activity_profile.proofs.Fresh.{fresh-is}
 use Rattle.activity_profile.proofs.Verdicts.{empty-none}
 use Rattle.activity_profile.proofs.Facts.{Whole}

@@ -3,11 +3,11 @@ use Prim.Native.Nat.{ℕ, suc, _+_, _-_, _≤_, _<_}
 use mathlib.Core.Path.{_≡_}
 use mathlib.Core.Bool.{Bool, true, false}
 use native.Mathlib.Omega.{arith}
-use lib.Dec.{ltb, eqb}
+use lib.Dec.{eqb}
 use borrow.Author.Tests.{ltb-true, ltb-false, leb-true, eqb-true, eqb-false, not-false, lt-ltb, eq-eqb}
 use Rattle.activity_profile.specs.declared.BandPassActivityProfile.{BandPassActivityProfile}
 use Rattle.activity_profile.specs.declared.ActivityProfileState.{ActivityProfileState}
-use Rattle.activity_profile.specs.Verdict.{Verdict, granted}
+use Rattle.activity_profile.specs.Verdict.{granted}
 use Rattle.band_pass_kernel.specs.Resolve.{maxFilter}
 use Rattle.activity_profile.specs.Profile.{D, settingsInRange, vacant, placed, broken}
 use Rattle.activity_profile.specs.Add.{at, needed, addVerdict}

@@ -1,8 +1,8 @@
 -- What a making that is not refused returns: a fresh record, and a kernel of 2F + 1 entries. Assumes nothing.
 use mathlib.Core.Path.{_≡_, refl, sym, ap, _∙_}
-use mathlib.Core.Bool.{Bool, true, false, cond, _&&_}
+use mathlib.Core.Bool.{Bool, true, false, cond}
 use mathlib.Core.List.{List}
-use Prim.Native.Nat.{ℕ, _≤_}
+use Prim.Native.Nat.{ℕ}
 use native.Mathlib.Omega.{arith}
 use lib.Dec.{eqb}
 use lib.ListN.{length, take}
@@ -12,7 +12,7 @@ use Rattle.genome.specs.Refusals.{Outcome, refused, answered}
 use Rattle.genome.specs.Ranges.{isPosition}
 use Rattle.band_pass_kernel.specs.declared.BandPassActivityProfileParams.{BandPassActivityProfileParams}
 use Rattle.band_pass_kernel.specs.Kernel.{band, gaussianKernel}
-use Rattle.band_pass_kernel.specs.Resolve.{inRange, hasRoom, accepted, filterSize, resolution, fullAfter, narrowAfter}
+use Rattle.band_pass_kernel.specs.Resolve.{inRange, hasRoom, accepted, filterSize, resolution}
 use Rattle.band_pass_kernel.proofs.Kernels.{Accepted, accepted-is, filterSize-le, length-gaussian, resolved-is, kernel-resolved}
 use Rattle.activity_profile.specs.declared.BandPassActivityProfile.{BandPassActivityProfile}
 use Rattle.activity_profile.specs.Making.{Fresh, freshProfile, madeOf, making, fullAfterMaking, narrowAfterMaking}

@@ -1,24 +1,23 @@
 -- What a granted call does to the loci that wait. Assumes nothing.
-use Prim.Native.Nat.{ℕ, zero, suc, _+_, _-_, _≤_, _<_, min, max}
-use mathlib.Core.Path.{_≡_, refl, _∙_}
-use mathlib.Core.Bool.{Bool, true, false, cond}
+use Prim.Native.Nat.{ℕ, zero, suc, _+_, _-_, _≤_, _<_}
+use mathlib.Core.Path.{_≡_, refl}
+use mathlib.Core.Bool.{Bool, true, false}
 use mathlib.Core.List.{List, [], _∷_, _++_}
 use native.Mathlib.Omega.{arith}
 use lib.Dec.{eqb}
-use lib.ListN.{length, take, length-take}
+use lib.ListN.{length}
 use lib.Ieee.{Float}
 use borrow.Author.Tests.{eqb-true, eqb-false, eq-eqb, ne-eqb}
 use Rattle.activity_profile.specs.declared.BandPassActivityProfile.{BandPassActivityProfile}
 use Rattle.activity_profile.specs.declared.ActivityProfileState.{ActivityProfileState}
 use Rattle.activity_profile.specs.Loci.{loci}
 use Rattle.activity_profile.specs.Verdict.{granted}
-use Rattle.activity_profile.specs.Profile.{D, waiting}
+use Rattle.activity_profile.specs.Profile.{waiting}
 use Rattle.activity_profile.specs.Add.{at, firstLocus, needed, addVerdict, addedProfile}
-use Rattle.activity_profile.specs.Pop.{ready, popVerdict, turn, kept, popSize, rest}
+use Rattle.activity_profile.specs.Pop.{kept, popSize, rest}
 use Rattle.activity_profile.proofs.Loci.{loci-one, loci-none, loci-snoc, loci-split}
-use Rattle.activity_profile.proofs.Facts.{Placed, Accepted, accepted-is, Asked, Readied, ready-is}
-use Rattle.activity_profile.proofs.Sizes.{Sized, size-is}
-use Rattle.activity_profile.proofs.Cuts.{Cut, cut-is}
+use Rattle.activity_profile.proofs.Facts.{Accepted, accepted-is, Readied}
+use Rattle.activity_profile.proofs.Cuts.{Cut}
 
 -- ---- what waits
 

@@ -1,5 +1,5 @@
 -- A record that is not broken stays so over every call, and the cells keep their number. Assumes nothing.
-use Prim.Native.Nat.{ℕ, zero, suc, _+_, _-_, _≤_, _<_, min, max}
+use Prim.Native.Nat.{ℕ, zero, suc, _+_, _-_, _≤_, _<_, min}
 use mathlib.Core.Path.{_≡_, refl}
 use mathlib.Core.Bool.{Bool, true, false, cond}
 use mathlib.Core.List.{List, [], _∷_}
@@ -12,19 +12,19 @@ use Rattle.activity_profile.specs.declared.BandPassActivityProfile.{Band
 use Rattle.activity_profile.specs.declared.ActivityProfileState.{ActivityProfileState}
 use Rattle.activity_profile.specs.Verdict.{Verdict, refusal, granted}
 use Rattle.band_pass_kernel.specs.Resolve.{maxFilter}
-use Rattle.activity_profile.specs.Profile.{D, settingsInRange, vacant, placed, broken}
+use Rattle.activity_profile.specs.Profile.{D, settingsInRange, placed, broken}
 use Rattle.activity_profile.specs.Add.{at, spreads, firstLocus, highest, needed, addVerdict, addedProfile, addAnswerBy, addAnswer, addCellsBy, addCells}
 use Rattle.activity_profile.specs.Pop.{Turn, empty, held, ready, popVerdict, turn, kept, popSize, rest, popAnswerBy, popAnswer, popCellsBy, popCells}
 use Rattle.activity_profile.specs.Run.{Call, Add, Pop, Lent, afterAdd, afterPop, step, after}
 use Rattle.lists.specs.Each.{length-each}
 use Rattle.lists.specs.Tests.{and-left, and-right}
 use Rattle.genome.specs.Refusals.{answered}
-use Rattle.genome.specs.Ranges.{isPosition, isProbability}
+use Rattle.genome.specs.Ranges.{isProbability}
 use Rattle.band_pass_kernel.specs.declared.BandPassActivityProfileParams.{BandPassActivityProfileParams}
 use Rattle.band_pass_kernel.specs.Resolve.{inRange, isDistance}
 use Rattle.activity_profile.specs.Making.{making}
 use Rattle.activity_profile.proofs.Fresh.{fresh-is}
-use Rattle.activity_profile.proofs.Facts.{Placed, Whole, Accepted, accepted-is, Asked}
+use Rattle.activity_profile.proofs.Facts.{Placed, Whole, Accepted, accepted-is}
 use Rattle.activity_profile.proofs.Cuts.{Cut, cut-is}
 
 pub whole-not : (p : BandPassActivityProfile) (n : ℕ) → Whole p n → broken p n ≡ false

@@ -3,7 +3,7 @@ use mathlib.Core.Path.{_≡_, refl}
 use mathlib.Core.Bool.{Bool, true, false, not, _&&_, cond}
 use Prim.Native.Nat.{ℕ}
 use Rattle.activity_profile.specs.Verdict.{Verdict, refusal, granted}
-use Rattle.activity_profile.specs.Pop.{Turn, empty, held, ready}
+use Rattle.activity_profile.specs.Pop.{empty, held, ready}
 
 -- ---- of a chain of refusals that grants: this one does not apply, nor a later one
 pub this-not : (b : Bool) (n : ℕ) (v : Verdict) → cond b (refusal n) v ≡ granted → b ≡ false

@@ -1,9 +1,8 @@
 -- 01, Refusals ("making a profile 1, 2") and Profile record: what a making answers, and what becomes of the two lent buffers.
-use mathlib.Core.Bool.{Bool, true, false, cond, not}
+use mathlib.Core.Bool.{true, cond}
 use mathlib.Core.List.{List}
 use mathlib.Core.Path.{_≡_}
 use Prim.Native.Nat.{ℕ, _≤_}
-use lib.ListN.{length}
 use lib.Ieee.{Float}
 use Rattle.genome.specs.Refusals.{Outcome, refused, answered, numberOf}
 use Rattle.genome.specs.Ranges.{isPosition}

@@ -16,7 +16,7 @@ use Rattle.genotype_likelihoods.specs.Settings.{settingsInRange}
 use Rattle.genotype_likelihoods.specs.Observation.{isObservation}
 use Rattle.genotype_likelihoods.specs.Likelihoods.{likelihoods}
 use Rattle.genotype_posterior.specs.Phred.{plRoundTrip}
-use Rattle.genotype_posterior.specs.Posterior.{posterior}
+use Rattle.genotype_posterior.specs.Posterior.{posterior, posteriorWritten}
 use Rattle.math_utils.specs.Sums.{maxElementIndex}
 use Rattle.activity_profile.specs.declared.ActivityProfileState.{ActivityProfileState}
 use Rattle.activity_profile.specs.declared.ActivityEvidence.{ActivityEvidence}
@@ -56,8 +56,16 @@ fromRounded s gl = record {
   original = sub binary64 (getD gl (maxElementIndex gl) nan) (getD gl 0 nan);
 }
 
+-- what the posterior leaves in the likelihoods
+abbrev pub writtenBy : HaplotypeCallerActivityScoringParams → List Float → List Float
+writtenBy s gl = posteriorWritten (s .«snp_heterozygosity») (s .«heterozygosity_standard_deviation») gl
+
+-- the rounded likelihoods of ploidy + 1 genotypes
+abbrev pub roundedOf : List ℕ → HaplotypeCallerActivityScoringParams → List Float
+roundedOf words s = plRoundTrip (likelihoods s (s .«sample_ploidy» .0 + 1) words)
+
 unfoldable pub activityOf : List ℕ → HaplotypeCallerActivityScoringParams → Activity
-activityOf words s = fromRounded s (plRoundTrip (likelihoods s (s .«sample_ploidy» .0 + 1) words))
+activityOf words s = fromRounded s (roundedOf words s)
 
 abbrev pub state : ℕ → GenomePosition → Activity → ActivityEvidence → ActivityProfileState
 state contig p a e = record {

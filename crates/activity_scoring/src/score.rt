@@ -12,8 +12,7 @@ ghost use mathlib.Core.Path.{_≡_};
 ghost use mathlib.Core.Bool.{true};
 ghost use Prim.Native.Nat.{_+_, _≤_};
 ghost use lib.ListN.{length};
-ghost use Rattle.lists.specs.Loops.{foldl};
-ghost use Rattle.activity_scoring.specs.Score.{inRange, maxDepth, andObservation, allObservations, evidenceOf, fromRounded, activityOf, stateOf, scoredOf, scoreOf};
+ghost use Rattle.activity_scoring.specs.Score.{inRange, allObservations, evidenceOf, writtenBy, fromRounded, roundedOf, activityOf, stateOf, scoredOf, scoreOf};
 
 // The longest pile: document 01's refusal 4.
 pub const MAX_DEPTH: usize = 16384;
@@ -118,6 +117,7 @@ fn activity_in(
 ) -> Activity
     requires { ⌜ length (now gl) ≡ params .«sample_ploidy» .0 + 1 ⌝ }
     ensures { λ r. ⌜ r ≡ activityOf (now (pile .entry)) params ⌝ }
+    ensures { λ _. ⌜ now (gl .exit) ≡ writtenBy params (roundedOf (now (pile .entry)) params) ⌝ }
 {
     genotype_likelihoods::calc_ref_vs_any_log10_genotype_likelihoods(gl, pile, params);
     genotype_posterior::genotype_log10_likelihoods_after_java_genotype_pl_roundtrip(gl);
@@ -127,6 +127,7 @@ fn activity_in(
 fn from_rounded(gl: &mut [f64], params: HaplotypeCallerActivityScoringParams) -> Activity
     requires { ⌜ 1 ≤ length (now gl) ⌝ }
     ensures { λ r. ⌜ r ≡ fromRounded params (now (gl .entry)) ⌝ }
+    ensures { λ _. ⌜ now (gl .exit) ≡ writtenBy params (now (gl .entry)) ⌝ }
 {
     let m = math_utils::max_element_index(&gl[..]);
     let original = gl[m] - gl[0];

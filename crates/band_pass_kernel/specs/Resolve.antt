@@ -1,7 +1,7 @@
 -- 01, Kernel and Refusals 1 and 2: which filter size and kernel a profile's settings have, and what becomes of the two lent buffers.
-use mathlib.Core.Bool.{Bool, true, false, cond, not, _&&_}
+use mathlib.Core.Bool.{Bool, cond, not, _&&_}
 use mathlib.Core.List.{List, _++_}
-use Prim.Native.Nat.{ℕ, _+_, _*_}
+use Prim.Native.Nat.{ℕ}
 use lib.Dec.{leb, eqb}
 use lib.ListN.{length, drop}
 use lib.Ieee.{Float, binary64, ofBits, le}

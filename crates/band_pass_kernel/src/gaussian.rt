@@ -2,8 +2,8 @@
 ghost use mathlib.Core.Path.{_≡_};
 ghost use Prim.Native.Nat.{_+_, _-_, _/_, _≤_};
 ghost use lib.ListN.{length};
-ghost use Rattle.lists.specs.Each.{each, fixed};
-ghost use Rattle.band_pass_kernel.specs.Kernel.{normalDistribution, densities, density, total, over, gaussian, adaptiveFilterSize};
+ghost use Rattle.lists.specs.Each.{each};
+ghost use Rattle.band_pass_kernel.specs.Kernel.{normalDistribution, densities, total, over, gaussian, adaptiveFilterSize};
 
 // The square root of two pi, as document 01 writes it.
 const ROOT_TWO_PI: f64 = 2.5066282746310002;

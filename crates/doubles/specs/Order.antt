@@ -1,6 +1,6 @@
 -- The order of two finite values that are not negative, as the order of any fractions that they equal.
 -- Assumes nothing.
-use mathlib.Core.Path.{_≡_, sym}
+use mathlib.Core.Path.{sym}
 use Prim.Native.Nat.{ℕ, _*_, _≤_, _<_, zero-le}
 use native.Mathlib.Nat.{lt-of-not-le, not-le-of-lt, le-of-suc-le-suc, lt-of-le-of-lt}
 use mathlib.Core.Bool.{true, false, not, true≢false}

@@ -2,7 +2,7 @@
 use mathlib.Core.Bool.{Bool, true, false, cond, not}
 use Prim.Native.Nat.{ℕ, _+_, _-_, _*_}
 use lib.IntN.{pos}
-use lib.Ieee.{Float, nan, inf, binary64, ofBits, ofInt, add, sub, mul, div, lt, le, eq}
+use lib.Ieee.{Float, nan, inf, binary64, ofBits, ofInt, add, sub, mul, div, lt, eq}
 use Rattle.lists.specs.Loops.{down, until}
 use Rattle.doubles.specs.Constants.{zeroF, halfF, oneF, twoF}
 use Rattle.elementary.specs.declared.Scaled.{Scaled}

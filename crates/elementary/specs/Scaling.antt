@@ -1,8 +1,7 @@
 -- No budget of ln or ln_gamma ever binds: for every double that document 01 gives them a value at, what the code runs is document 01's own
 -- loops to their end. Assumes nothing.
 use mathlib.Core.Path.{refl}
-use mathlib.Core.Bool.{Bool, false, not}
-use Prim.Native.Nat.{ℕ}
+use mathlib.Core.Bool.{false}
 use lib.Dec.{T, lit≤}
 use lib.Ieee.{Float, inf, binary64, ofBits, fits, lt, le}
 use lib.Ieee.Exact.{HasValue}

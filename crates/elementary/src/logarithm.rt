@@ -4,10 +4,8 @@ use crate::limits::infinity;
 use crate::limits::not_a_number;
 ghost use mathlib.Core.Path.{_≡_};
 ghost use Prim.Native.Nat.{_≤_};
-ghost use lib.Ieee.{Float, binary64, ofBits, div};
 ghost use Rattle.lists.specs.Loops.{down, until};
-ghost use Rattle.doubles.specs.Constants.{oneF};
-ghost use Rattle.elementary.specs.Ln.{unscaled, halve, below2, double, from1, maxScalings, halved, lnTerm, first, lnScaled, lnOf, log10Of};
+ghost use Rattle.elementary.specs.Ln.{double, from1, maxScalings, halved, lnTerm, first, lnScaled, lnOf, log10Of};
 
 // No finite double needs more halvings or doublings than this.
 const MAX_SCALINGS: u32 = 1074;

@@ -242,25 +242,37 @@ unfolding unnormalized
 unnormalized-fits ploidy ref snp n x = add-fits binary64 x _
 
 -- of likelihoods that were rounded, one for each genotype of a ploidy up to 100
-pub posterior-unit : (het sd : Float) (gl : List Float) → InRange het sd → length gl ≤ 101 → ((i : ℕ) → i < length gl → Size 31 (getD gl i nan))
-    → T (le zeroF (posterior het sd gl)) × T (le (posterior het sd gl) oneF)
-unfolding posterior
-posterior-unit het sd gl r few sized = go (eqb (maxElementIndex gl) 0)
-  where
-    same : length (unnormalizedAll het sd gl) ≡ length gl
-    same = length-each (unnormalized (length gl - 1) (refPseudocount het sd) (snpPseudocount het sd)) gl
+module _ (het sd : Float) (gl : List Float) (r : InRange het sd) (few : length gl ≤ 101) (sized : (i : ℕ) → i < length gl → Size 31 (getD gl i nan)) where
+  same : length (unnormalizedAll het sd gl) ≡ length gl
+  same = length-each (unnormalized (length gl - 1) (refPseudocount het sd) (snpPseudocount het sd)) gl
 
-    within : (i : ℕ) → i < length (unnormalizedAll het sd gl) → i < length gl
-    within i h = omega (arith, same)
+  within : (i : ℕ) → i < length (unnormalizedAll het sd gl) → i < length gl
+  within i h = omega (arith, same)
 
-    go : (b : Bool) → T (le zeroF (cond b zeroF (nonRef (unnormalizedAll het sd gl)))) × T (le (cond b zeroF (nonRef (unnormalizedAll het sd gl))) oneF)
-    go true = zero-unit
-    go false =
-        non-ref-unit (unnormalizedAll het sd gl) (omega (arith, same))
-        (λ i h. subst (Size 155) (sym (getD-each (unnormalized (length gl - 1) (refPseudocount het sd) (snpPseudocount het sd)) gl i nan (within i h)))
-        (unnormalized-size (length gl - 1) i het sd (getD gl i nan) r (last i (length gl) (within i h)) (omega arith) (sized i (within i h))))
-        (λ i h. subst (λ (x : Float). T (fits binary64 x)) (sym (getD-each (unnormalized (length gl - 1) (refPseudocount het sd) (snpPseudocount het sd)) gl i nan (within i h)))
-        (unnormalized-fits (length gl - 1) (refPseudocount het sd) (snpPseudocount het sd) i (getD gl i nan)))
-      where
-        last : (i n : ℕ) → i < n → i ≤ n - 1
-        last i n h = omega arith
+  all-few : length (unnormalizedAll het sd gl) ≤ 101
+  all-few = omega (arith, same, few)
+
+  all-sized : (i : ℕ) → i < length (unnormalizedAll het sd gl) → Size 155 (getD (unnormalizedAll het sd gl) i nan)
+  all-sized i h =
+      subst (Size 155) (sym (getD-each (unnormalized (length gl - 1) (refPseudocount het sd) (snpPseudocount het sd)) gl i nan (within i h)))
+      (unnormalized-size (length gl - 1) i het sd (getD gl i nan) r (last i (length gl) (within i h)) (omega (arith, few)) (sized i (within i h)))
+    where
+      last : (i n : ℕ) → i < n → i ≤ n - 1
+      last i n h = omega arith
+
+  all-fit : (i : ℕ) → i < length (unnormalizedAll het sd gl) → T (fits binary64 (getD (unnormalizedAll het sd gl) i nan))
+  all-fit i h =
+      subst (λ (x : Float). T (fits binary64 x)) (sym (getD-each (unnormalized (length gl - 1) (refPseudocount het sd) (snpPseudocount het sd)) gl i nan (within i h)))
+      (unnormalized-fits (length gl - 1) (refPseudocount het sd) (snpPseudocount het sd) i (getD gl i nan))
+
+  -- what the posterior takes the log10 of is finite and above 0
+  pub posterior-argument : 0 < length gl → let u = unnormalizedAll het sd gl in let m = maxElementIndex u in T (lt zeroF (powers u m (getD u m nan))) × T (lt (powers u m (getD u m nan)) (inf false))
+  posterior-argument h = powers-argument (unnormalizedAll het sd gl) all-few all-sized all-fit (omega (arith, same))
+
+  pub posterior-unit : T (le zeroF (posterior het sd gl)) × T (le (posterior het sd gl) oneF)
+  unfolding posterior
+  posterior-unit = go (eqb (maxElementIndex gl) 0)
+    where
+      go : (b : Bool) → T (le zeroF (cond b zeroF (nonRef (unnormalizedAll het sd gl)))) × T (le (cond b zeroF (nonRef (unnormalizedAll het sd gl))) oneF)
+      go true = zero-unit
+      go false = non-ref-unit (unnormalizedAll het sd gl) all-few all-sized all-fit

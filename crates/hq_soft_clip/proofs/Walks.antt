@@ -1,16 +1,16 @@
 -- Laws of the walk along a read: it may stop where the qualities end, and counts no more bases than it has passed. Assumes nothing.
-use mathlib.Core.Path.{_≡_, refl, sym, ap, _∙_}
+use mathlib.Core.Path.{_≡_, sym, ap, _∙_}
 use mathlib.Core.Bool.{Bool, true, false, cond}
 use mathlib.Core.List.{List, [], _∷_}
-use Prim.Native.Nat.{ℕ, zero, suc, _+_, _-_, _≤_, _<_, min}
+use Prim.Native.Nat.{ℕ, suc, _+_, _-_, _≤_, min}
 use native.Mathlib.Nat.{le-refl}
 use native.Mathlib.Omega.{arith}
 use lib.Dec.{ltb}
-use lib.ListN.{length, take, drop, length-take, length-drop, drop-of-length-le}
-use lib.Seq.{take-all, length-take-le}
+use lib.ListN.{length, take, drop, length-drop, drop-of-length-le}
+use lib.Seq.{take-all}
 use Rattle.lists.specs.Loops.{foldl}
-use Rattle.lists.specs.Window.{split, lt-or-le}
-use mathlib.Core.Logic.{_⊎_, ⊎-elim}
+use Rattle.lists.specs.Window.{lt-or-le}
+use mathlib.Core.Logic.{⊎-elim}
 use Rattle.hq_soft_clip.specs.declared.Walk.{Walk}
 use Rattle.hq_soft_clip.specs.SoftClips.{operation, advances, isSoftClip, span, withBase, countHigh, clipped, walked, capped}
 

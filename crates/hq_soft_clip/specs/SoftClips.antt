@@ -1,9 +1,9 @@
 -- 01, Soft-clip count, with the SAM specification's CIGAR operations: 0 to 8 are M I D N S H P = X.
-use mathlib.Core.Bool.{Bool, true, false, cond, _||_}
+use mathlib.Core.Bool.{Bool, false, cond, _||_}
 use mathlib.Core.List.{List}
 use Prim.Native.Nat.{ℕ, _+_, _/_, _%_, min}
 use lib.Dec.{eqb, ltb}
-use lib.ListN.{length, take, drop}
+use lib.ListN.{take, drop}
 use Rattle.lists.specs.Loops.{foldl}
 use Rattle.genome.specs.Refusals.{Outcome, refused, answered, numberOf}
 use Rattle.hq_soft_clip.specs.declared.Walk.{Walk}

@@ -1,7 +1,7 @@
 -- A loop without a budget, and what a loop with a budget (`until`) has to do with it.
 -- Assumes nothing.
-use mathlib.Core.Path.{_≡_, refl, sym, subst, _∙_}
-use mathlib.Core.Bool.{Bool, true, false, not, cond}
+use mathlib.Core.Path.{_≡_, refl, sym, subst}
+use mathlib.Core.Bool.{Bool, true, false, not}
 use Prim.Native.Nat.{ℕ, zero, suc, zero-le}
 use native.Mathlib.Nat.{zero-lt-suc}
 use native.Mathlib.Numerals.{sub-one}

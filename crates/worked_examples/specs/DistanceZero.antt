@@ -1,10 +1,9 @@
 -- Why demand 3 asks for a propagation distance of at least 1 (beside P9). With distance 0 and filter size 1: one add at locus 1, an unforced pop
 -- of max 1, which answers 1 to 1, and a forced one, which answers 2 to 2, a locus that was never read. Assumes nothing.
 use mathlib.Core.Path.{_≡_, refl}
-use mathlib.Core.Bool.{Bool, true, false}
-use mathlib.Core.List.{List, [], _∷_, _++_}
-use Prim.Native.Nat.{ℕ}
-use lib.Ieee.{Float, binary64, ofBits, lt, le, add, mul}
+use mathlib.Core.Bool.{true, false}
+use mathlib.Core.List.{List, [], _∷_}
+use lib.Ieee.{ofBits, lt, le, add, mul}
 use Rattle.lists.specs.Each.{each, upTo}
 use Rattle.lists.specs.Loops.{down, firstAt}
 use Rattle.doubles.specs.Constants.{zeroF, halfF, oneF}
@@ -12,13 +11,12 @@ use Rattle.genome.specs.Refusals.{answered}
 use Rattle.band_pass_kernel.specs.declared.BandPassActivityProfileParams.{BandPassActivityProfileParams}
 use Rattle.band_pass_kernel.specs.Resolve.{inRange, hasRoom, filterSize, resolution}
 use Rattle.activity_profile.specs.declared.BandPassActivityProfile.{BandPassActivityProfile}
-use Rattle.activity_profile.specs.declared.ActivityProfileState.{ActivityProfileState}
 use Rattle.activity_profile.specs.declared.ActivityEvidence.the-variants.{Plain}
 use Rattle.activity_profile.specs.Making.{making, freshProfile}
-use Rattle.activity_profile.specs.Profile.{settingsInRange, placed, broken, waiting}
+use Rattle.activity_profile.specs.Profile.{settingsInRange, placed, broken}
 use Rattle.activity_profile.specs.Add.{superStates, times, weight, received, firstLocus, lowest, highest, needed, addVerdict, addedProfile, addedCell, addAnswerBy, addCellsBy, addAnswer, addCells}
 use Rattle.activity_profile.specs.Pop.{popVerdict, turn, kept, qualifies, beats, replaces, better, bestCutSite, orMost, sizeOf, popSize, regionOf, rest, movedCell, popAnswerBy, popCellsBy, popAnswer, popCells}
-use Rattle.activity_profile.specs.Run.{Call, Add, Pop, Lent, step, acceptedBy, poppedBy, after, acceptedIn, poppedIn}
+use Rattle.activity_profile.specs.Run.{Call, Add, Pop, Lent, step, acceptedBy, poppedBy, acceptedIn, poppedIn}
 
 pub settings : BandPassActivityProfileParams
 settings = record {

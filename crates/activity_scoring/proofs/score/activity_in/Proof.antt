@@ -1,5 +1,9 @@
 -- `activity_in` meets its contract: likelihoods, rounding, posterior.
-use Rattle.activity_scoring.specs.Score.{activityOf}
+use Prim.Native.Nat.{ℕ}
+use mathlib.Core.Path.{_∙_, ap}
+use Rattle.genotype_likelihoods.specs.Likelihoods.{likelihoods}
+use Rattle.genotype_posterior.specs.Phred.{plRoundTrip}
+use Rattle.activity_scoring.specs.Score.{writtenBy, fromRounded, activityOf}
 use borrow.Author.Needs.{needs}
 use Rattle.activity_scoring.proofs.score.activity_in.Statement.{statement}
 use Rattle.activity_scoring.proofs.score.activity_in.Tie as tie
@@ -18,7 +22,16 @@ same-length c = search needs
 
 returns : tie.Need-returns
 unfolding activityOf
-returns c = simp (c .before .before .from-rounded .ensures, c .before .before .before .before .before .before .genotype-log10-likelihoods-after-java-genotype-pl-roundtrip .ensures, c .before .before .before .before .before .before .before .before .before .before .calc-ref-vs-any-log10-genotype-likelihoods .ensures, c .before .before .before .before .before .before .before .before .before .before .before .before .before .before .pre)
+returns c =
+    let rounded = c .before .before in
+    let round = rounded .before .before .before .before in
+    let calc = round .before .before .before .before in
+    let start = calc .before .before .before .before in
+    let s = start .args .params in
+    let words = start .args .pile .now in
+    let calculated = calc .calc-ref-vs-any-log10-genotype-likelihoods .ensures ∙ ap (λ (n : ℕ). likelihoods s n words) (start .pre) in
+    let gl = round .genotype-log10-likelihoods-after-java-genotype-pl-roundtrip .ensures ∙ ap plRoundTrip calculated in
+    (rounded .from-rounded .ensures .0 ∙ ap (fromRounded s) gl, rounded .from-rounded .ensures .1 ∙ ap (writtenBy s) gl)
 
 pub activity-in-spec : {M : Type 1} → statement M
 activity-in-spec =

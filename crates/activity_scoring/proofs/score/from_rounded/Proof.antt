@@ -1,4 +1,5 @@
 -- `from_rounded` meets its contract.
+use mathlib.Core.Path.{refl}
 use borrow.Author.Needs.{needs}
 use Rattle.activity_scoring.proofs.score.from_rounded.Statement.{statement}
 use Rattle.activity_scoring.proofs.score.from_rounded.Tie as tie
@@ -24,7 +25,7 @@ same-length c = search needs
 returns : tie.Need-returns
 returns c =
     let at = c .before .before in
-    simp (at .calculate-single-sample-biallelic-non-ref-posterior .ensures .0, at .before .before .before .before .max-element-index .ensures .0)
+    simp (at .calculate-single-sample-biallelic-non-ref-posterior .ensures .0, at .calculate-single-sample-biallelic-non-ref-posterior .ensures .1, at .before .before .before .before .max-element-index .ensures .0) (refl, refl)
 
 pub from-rounded-spec : {M : Type 1} → statement M
 from-rounded-spec =

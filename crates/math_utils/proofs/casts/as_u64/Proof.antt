@@ -3,7 +3,6 @@ use mathlib.Core.Path.{subst, sym}
 use lib.Dec.{T}
 use lib.Ieee.{neg, ofBits}
 use Rattle.math_utils.specs.Casts.{at-top, at-zero}
-use borrow.Author.Needs.{needs}
 use Rattle.math_utils.proofs.casts.as_u64.Statement.{statement}
 use Rattle.math_utils.proofs.casts.as_u64.Tie as tie
 
