@@ -1,0 +1,308 @@
+// The region program: document 01's chapter of that name. It reads words from standard input and writes lines to standard output, in
+// constant memory. What each word does, and the text of each line, is region_stream's and
+// region_text's.
+mod output;
+
+use libc::STDIN_FILENO;
+use output::Output;
+use region_stream::CELLS;
+use region_stream::KERNEL;
+use region_stream::PILE;
+use region_stream::RegionStream;
+use region_stream::Step;
+ghost use mathlib.Core.Path.{_≡_};
+ghost use Prim.Native.Nat.{_+_, _*_, _≤_, _<_};
+ghost use lib.ListN.{length};
+ghost use Rattle.region_stream.specs.Stream.{looksLeft};
+ghost use Rattle.region.specs.Blocks.{BlockUpTo, wordAt};
+
+// The bytes of a block of input.
+const BLOCK: usize = 65536;
+
+// The stream, the byte of the block at which its next word starts, and what is printed; the program is over where it has `stopped`.
+struct State {
+    stream: RegionStream,
+    at: usize,
+    output: Output,
+    stopped: bool,
+}
+
+// What a reading brings: so many bytes in the block, the end of the input, or a failure.
+enum Block {
+    Bytes(usize),
+    End,
+    Failed,
+}
+
+fn main() {
+    let mut pile = [0u32; PILE];
+    let mut full = [0.0f64; KERNEL];
+    let mut narrow = [0.0f64; KERNEL];
+    let mut cells = [0.0f64; CELLS];
+    let mut input = io::large_buffer();
+    let mut lines = io::large_buffer();
+    run(
+        &mut input,
+        &mut lines,
+        &mut pile,
+        &mut full,
+        &mut narrow,
+        &mut cells,
+    );
+}
+
+// Feeds the input block by block; the lines that a block brings are written before the next is read. A proved loop has to end, and nothing says
+// that an input does: so this one counts its blocks down, from a number that no run uses up.
+fn run(
+    input: &mut [u8; BLOCK],
+    lines: &mut [u8; BLOCK],
+    pile: &mut [u32; PILE],
+    full: &mut [f64; KERNEL],
+    narrow: &mut [f64; KERNEL],
+    cells: &mut [f64; CELLS],
+) {
+    let mut r = start();
+    let mut turns = u64::MAX;
+    while turns > 0 {
+        r = next_block(r, input, lines, pile, full, narrow, cells);
+        if r.stopped {
+            return;
+        }
+        turns -= 1;
+    }
+}
+
+fn start() -> State
+    ensures { λ r. ⌜ (r .at ≡ 0) × (r .output .used ≡ 0) ⌝ }
+{
+    let stream = RegionStream::new();
+    let output = Output::new();
+    State {
+        stream,
+        at: 0,
+        output,
+        stopped: false,
+    }
+}
+
+// Reads once and feeds what came, or ends the input.
+fn next_block(
+    r: State,
+    input: &mut [u8],
+    lines: &mut [u8],
+    pile: &mut [u32; PILE],
+    full: &mut [f64; KERNEL],
+    narrow: &mut [f64; KERNEL],
+    cells: &mut [f64; CELLS],
+) -> State
+    requires { ⌜ (r .at ≤ 3) × (r .output .used ≡ 0) × (length (now input) ≡ 65536) × (length (now lines) ≡ 65536) ⌝ }
+    ensures { λ s. ⌜ (s .at ≤ 3) × (s .output .used ≡ 0) ⌝ }
+    ensures { λ _. ⌜ (length (now (input .exit)) ≡ 65536) × (length (now (lines .exit)) ≡ 65536) ⌝ }
+{
+    let block = read_block(input, r.at);
+    match block {
+        Block::Bytes(n) => {
+            let fed = feed(r, n, input, lines, pile, full, narrow, cells);
+            flushed(fed, keep_rest(input, n), lines)
+        }
+        Block::End => end(r, lines, pile, full, narrow, cells),
+        Block::Failed => {
+            os::fail(b"standard input");
+            stopped(r)
+        }
+    }
+}
+
+// Reads once, behind the `kept` bytes of a word that is not whole yet.
+fn read_block(input: &mut [u8], kept: usize) -> Block
+    requires { ⌜ (kept ≤ 3) × (length (now input) ≡ 65536) ⌝ }
+    ensures { λ r. ⌜ BlockUpTo 65536 r ⌝ }
+    ensures { λ _. ⌜ length (now (input .exit)) ≡ 65536 ⌝ }
+{
+    let got = libc::read(STDIN_FILENO, &mut input[kept..]);
+    if got < 0 {
+        return Block::Failed;
+    }
+    if got == 0 {
+        return Block::End;
+    }
+    let n = io::count(got, &input[kept..]);
+    Block::Bytes(kept + n)
+}
+
+// Looks at the whole words of the first n bytes, until the program is over.
+fn feed(
+    r: State,
+    n: usize,
+    input: &[u8],
+    lines: &mut [u8],
+    pile: &mut [u32; PILE],
+    full: &mut [f64; KERNEL],
+    narrow: &mut [f64; KERNEL],
+    cells: &mut [f64; CELLS],
+) -> State
+    requires { ⌜ (n ≤ length (now input)) × (n ≤ 65536) × (r .output .used ≡ 0) × (length (now lines) ≡ 65536) ⌝ }
+    ensures { λ s. ⌜ s .output .used ≤ 65536 ⌝ }
+    ensures { λ _. ⌜ length (now (lines .exit)) ≡ 65536 ⌝ }
+{
+    let mut s = from_start(r);
+    while s.at + 4 <= n {
+        if s.stopped {
+            return s;
+        }
+        let w = word_at(input, s.at);
+        s = look(s, w, lines, pile, full, narrow, cells);
+    }
+    s
+}
+
+// The run at the block's first byte.
+fn from_start(r: State) -> State
+    ensures { λ s. ⌜ (s .at ≡ 0) × (s .output ≡ r .output) ⌝ }
+{
+    let mut s = r;
+    s.at = 0;
+    s
+}
+
+// The little-endian word at a byte.
+fn word_at(input: &[u8], at: usize) -> u32
+    requires { ⌜ at + 4 ≤ length (now input) ⌝ }
+    ensures { λ w. ⌜ w ≡ wordAt (now (input .entry)) at ⌝ }
+{
+    let b0 = wide(input[at]);
+    let b1 = wide(input[at + 1]);
+    let b2 = wide(input[at + 2]);
+    let b3 = wide(input[at + 3]);
+    b0 + 256 * (b1 + 256 * (b2 + 256 * b3))
+}
+
+fn wide(byte: u8) -> u32
+    ensures { λ r. ⌜ (r ≡ byte) × (r < 256) ⌝ }
+{
+    byte as u32
+}
+
+// One look at a word: a line leaves the run at the same word.
+fn look(
+    r: State,
+    w: u32,
+    lines: &mut [u8],
+    pile: &mut [u32; PILE],
+    full: &mut [f64; KERNEL],
+    narrow: &mut [f64; KERNEL],
+    cells: &mut [f64; CELLS],
+) -> State
+    requires { ⌜ (r .at ≤ 65532) × (r .output .used ≤ 65536) × (length (now lines) ≡ 65536) ⌝ }
+    ensures { λ s. ⌜ (s .at ≤ r .at + 4) × (s .output .used ≤ 65536) × (looksLeft (s .stream) + r .at * 1100 < looksLeft (r .stream) + s .at * 1100) ⌝ }
+    ensures { λ _. ⌜ length (now (lines .exit)) ≡ 65536 ⌝ }
+{
+    let stream = r.stream;
+    let step = stream.word(w, pile, full, narrow, cells);
+    let output = r.output;
+    match step {
+        Step::Go(next) => run_at(next, r.at + 4, output, output.failed),
+        Step::Line(region, next) => {
+            let printed = output.line(region, lines);
+            run_at(next, r.at, printed, printed.failed)
+        }
+        Step::Refused(why, index) => {
+            let printed = output.refusal(why, index, lines);
+            run_at(stream, r.at + 4, printed, true)
+        }
+    }
+}
+
+fn run_at(stream: RegionStream, at: usize, output: Output, stopped: bool) -> State
+    ensures { λ r. ⌜ r ≡ record { stream = stream; at = at; output = output; stopped = stopped } ⌝ }
+{
+    State {
+        stream,
+        at,
+        output,
+        stopped,
+    }
+}
+
+// Moves the bytes behind the last whole word of the first n to the front of the block, and answers how many they are.
+fn keep_rest(input: &mut [u8], n: usize) -> usize
+    requires { ⌜ n ≤ length (now input) ⌝ }
+    ensures { λ r. ⌜ r ≤ 3 ⌝ }
+    ensures { λ _. ⌜ length (now (input .exit)) ≡ length (now (input .entry)) ⌝ }
+{
+    let rest = n % 4;
+    let mut i = 0;
+    while i < rest {
+        input[i] = input[n - rest + i];
+        i += 1;
+    }
+    rest
+}
+
+// The run once its lines are written, with so many bytes kept.
+fn flushed(r: State, kept: usize, lines: &[u8]) -> State
+    requires { ⌜ (kept ≤ 3) × (r .output .used ≤ 65536) × (length (now lines) ≡ 65536) ⌝ }
+    ensures { λ s. ⌜ (s .at ≤ 3) × (s .output .used ≡ 0) ⌝ }
+{
+    let stream = r.stream;
+    let output = r.output;
+    let written = output.flush(lines);
+    run_at(stream, kept, written, r.stopped | written.failed)
+}
+
+// The end of the input, with a remainder where bytes are kept; then the program is over.
+fn end(
+    r: State,
+    lines: &mut [u8],
+    pile: &mut [u32; PILE],
+    full: &mut [f64; KERNEL],
+    narrow: &mut [f64; KERNEL],
+    cells: &mut [f64; CELLS],
+) -> State
+    requires { ⌜ (r .output .used ≡ 0) × (length (now lines) ≡ 65536) ⌝ }
+    ensures { λ s. ⌜ (s .at ≤ 3) × (s .output .used ≡ 0) ⌝ }
+    ensures { λ _. ⌜ length (now (lines .exit)) ≡ 65536 ⌝ }
+{
+    let stream = r.stream;
+    let output = r.output;
+    let step = last_look(stream, r.at != 0, pile, full, narrow, cells);
+    let printed = last_line(step, output, lines);
+    let written = printed.flush(lines);
+    run_at(stream, 0, written, true)
+}
+
+// The look at the end of the input, or at a remainder.
+fn last_look(
+    stream: RegionStream,
+    remainder: bool,
+    pile: &mut [u32; PILE],
+    full: &mut [f64; KERNEL],
+    narrow: &mut [f64; KERNEL],
+    cells: &mut [f64; CELLS],
+) -> Step {
+    if remainder {
+        return stream.remainder(pile, full, narrow, cells);
+    }
+    stream.end(pile, full, narrow, cells)
+}
+
+// The line of the last look.
+fn last_line(step: Step, output: Output, lines: &mut [u8]) -> Output
+    requires { ⌜ (output .used ≡ 0) × (length (now lines) ≡ 65536) ⌝ }
+    ensures { λ r. ⌜ r .used ≤ 65536 ⌝ }
+    ensures { λ _. ⌜ length (now (lines .exit)) ≡ 65536 ⌝ }
+{
+    match step {
+        Step::Go(_) => output,
+        Step::Line(region, _) => output.line(region, lines),
+        Step::Refused(why, index) => output.refusal(why, index, lines),
+    }
+}
+
+// The run, over.
+fn stopped(r: State) -> State
+    ensures { λ s. ⌜ (s .at ≤ 3) × (s .output .used ≡ 0) ⌝ }
+{
+    let stream = r.stream;
+    run_at(stream, 0, Output::new(), true)
+}

@@ -1,0 +1,102 @@
+-- What the definitions come to at each place of a stream, said of the code's state. Assumes nothing.
+use mathlib.Core.Path.{_≡_, refl, sym, ap, _∙_}
+use mathlib.Core.Bool.{Bool, true, false, cond, _||_}
+use mathlib.Core.List.{List, [], _∷_, _++_}
+use Prim.Native.Nat.{ℕ, zero, suc, _+_, _≤_, _<_}
+use native.Mathlib.Omega.{arith}
+use native.Mathlib.Numerals.{add-one}
+use borrow.Author.Tests.{lt-ltb, le-ltb}
+use lib.Dec.{ltb, eqb}
+use lib.ListN.{length, take, set}
+use lib.Seq.{length-take-le, take-all, take-suc-set}
+use lib.Ieee.{Float}
+use Rattle.genome.specs.Refusals.{Outcome, refused, answered}
+use Rattle.band_pass_kernel.specs.Kernel.{band, gaussianKernel}
+use Rattle.activity_profile.specs.declared.BandPassActivityProfile.{BandPassActivityProfile}
+use Rattle.activity_profile.specs.Making.{making, fullAfterMaking, narrowAfterMaking}
+use Rattle.activity_profile.proofs.Fresh.{kernel-made}
+use Rattle.activity_scoring.specs.Score.{maxDepth}
+use Rattle.region_stream.specs.declared.RegionStream.{RegionStream}
+use Rattle.region_stream.specs.declared.Phase.{Phase}
+use Rattle.region_stream.specs.declared.Phase.the-variants.{Settings, Loci, Pile}
+use Rattle.region_stream.specs.Settings.{paramsOf}
+use Rattle.region_stream.specs.Program.{Reading, Place, atSettings, atLoci, inPile, goesOn, stopsAt, goes, stops, next, bufferSize, bitsOf, pileScore, scoreAdded, scoreCells, endedWith, ended, endPile, madeWith, openedAt, opened, deepened, observedAt, observed, poppedFor, popAt, popMade, popUnmade}
+use Rattle.region_stream.specs.Stream.{placeOf, kernelIn, kernelOf, seen, closedWith, startedWith, pileAt, cellsAnswered, pileObserved}
+use Rattle.region_stream.proofs.Kept.{filter-scored}
+
+-- ---- the end of a pile
+
+module _ (s : RegionStream) (pile : List ℕ) (full narrow cells : List Float) (l i d : ℕ) (e : s .phase ≡ Pile l i d) where
+  pub ends-added : (q : BandPassActivityProfile) → scoreAdded (s .profile) cells (kernelIn s full narrow) (pileScore l (take d pile)) ≡ answered q
+      → endPile (seen s pile full narrow cells) ≡ goesOn (seen (closedWith s q) pile full narrow (scoreCells (s .profile) cells (kernelIn s full narrow) (pileScore l (take d pile))))
+  unfolding ended endedWith
+  ends-added q a = rw (e, a, filter-scored (s .profile) cells (kernelIn s full narrow) (pileScore l (take d pile)) q a)
+
+  pub ends-refused : (n : ℕ) → scoreAdded (s .profile) cells (kernelIn s full narrow) (pileScore l (take d pile)) ≡ refused n → endPile (seen s pile full narrow cells) ≡ stopsAt n i
+  unfolding ended endedWith
+  ends-refused n a = rw (e, a)
+
+-- ---- a locus word
+
+module _ (s : RegionStream) (w : ℕ) (pile : List ℕ) (full narrow cells : List Float) where
+  pub opens-made : (p : BandPassActivityProfile) → length full ≡ bufferSize → length narrow ≡ bufferSize → s .phase ≡ Settings
+      → making 0 (s .settings .«contig_len») (paramsOf (s .settings)) (length full) (length narrow) ≡ answered p
+      → goes (seen (startedWith (pileAt s (bitsOf w) (s .index) 0) p) pile (fullAfterMaking (s .settings .«contig_len») (paramsOf (s .settings)) full (length narrow)) (narrowAfterMaking (s .settings .«contig_len») (paramsOf (s .settings)) (length full) narrow) cells)
+      ≡ opened w (seen s pile full narrow cells)
+  unfolding openedAt madeWith
+  opens-made p f n e m =
+      let k = kernel-made 0 (s .settings .«contig_len») (paramsOf (s .settings)) full narrow p m in
+      let made : making 0 (s .settings .«contig_len») (paramsOf (s .settings)) bufferSize bufferSize ≡ answered p = simp (f, n) at m in
+      rw (e, k, made)
+
+  pub opens-refused : (k : ℕ) → length full ≡ bufferSize → length narrow ≡ bufferSize → s .phase ≡ Settings
+      → making 0 (s .settings .«contig_len») (paramsOf (s .settings)) (length full) (length narrow) ≡ refused k → stops k (s .index) ≡ opened w (seen s pile full narrow cells)
+  unfolding openedAt madeWith
+  opens-refused k f n e m =
+      let made : making 0 (s .settings .«contig_len») (paramsOf (s .settings)) bufferSize bufferSize ≡ refused k = simp (f, n) at m in
+      rw (e, made)
+
+-- ---- an observation
+
+-- the kept words with one more
+taken-more : (pile : List ℕ) (w d : ℕ) → length pile ≡ 16385 → d < length pile → take (d + 1) (set pile d w) ≡ deepened (take d pile) w
+taken-more pile w d long h =
+    let n : length (take d pile) ≡ d = length-take-le d pile (omega arith) in
+    rw (n, le-ltb maxDepth d (omega arith), add-one) (take-suc-set pile d w h)
+
+-- a pile that is full is too deep
+taken-all : (pile : List ℕ) (w d : ℕ) → length pile ≡ 16385 → length pile ≤ d → take d pile ≡ deepened (take d pile) w
+taken-all pile w d long h =
+    let all : take d pile ≡ pile = take-all d pile h in
+    rw (all, long)
+
+module _ (s : RegionStream) (w : ℕ) (pile : List ℕ) (full narrow cells : List Float) (l i d : ℕ) (long : length pile ≡ 16385) (e : s .phase ≡ Pile l i d) where
+  pub observes-more : d < length pile → goes (seen (pileAt s l i (d + 1)) (set pile d w) full narrow cells) ≡ observed w (seen s pile full narrow cells)
+  unfolding observedAt
+  observes-more h = rw (e, taken-more pile w d long h)
+
+  pub observes-no-more : length pile ≤ d → goes (seen (pileAt s l i d) pile full narrow cells) ≡ observed w (seen s pile full narrow cells)
+  unfolding observedAt
+  observes-no-more h = rw e (ap (λ t. goes (record { settings = s .settings; profile = s .profile; kernel = kernelIn s full narrow; cells = cells; place = inPile l i t; index = next (s .index) })) (taken-all pile w d long h))
+
+module _ (s : RegionStream) (w : ℕ) (pile : List ℕ) (l i d : ℕ) (e : s .phase ≡ Pile l i d) where
+  pub takes-more : d < length pile → set pile d w ≡ pileObserved (s .phase) w pile
+  takes-more h = rw (e, lt-ltb d (length pile) h)
+
+  pub takes-no-more : length pile ≤ d → pile ≡ pileObserved (s .phase) w pile
+  takes-no-more h = rw (e, le-ltb d (length pile) h)
+
+-- ---- a pop
+
+module _ (value : ℕ) (s : Reading) (v : ltb 1 value ≡ false) where
+  pub pops-unmade : s .place ≡ atSettings → popUnmade s ≡ poppedFor value s
+  unfolding poppedFor popAt
+  pops-unmade e = rw (v, e)
+
+  pub pops-loci : s .place ≡ atLoci → popMade (eqb value 1) s ≡ poppedFor value s
+  unfolding poppedFor popAt
+  pops-loci e = rw (v, e)
+
+  pub pops-pile : (p i : ℕ) (words : List ℕ) → s .place ≡ inPile p i words → popMade (eqb value 1) s ≡ poppedFor value s
+  unfolding poppedFor popAt
+  pops-pile p i words e = rw (v, e)

@@ -1,0 +1,4 @@
+pub mod Settings
+pub mod Program
+pub mod Feeding
+pub mod Stream
