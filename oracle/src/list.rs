@@ -20,6 +20,7 @@ pub enum Function {
     Score = 14,
     PairSum = 15,
     Log10Sum = 16,
+    Region = 17,
 }
 
 /// One answer: the function's number, how many words follow, and the words of the arguments and then of the results.

@@ -1,8 +1,10 @@
 //! Prints lists of the oracle's answers, which the replay programs compare with the proved library's (docs/LISTS.md), and what the region program prints
-//! for the words on standard input.
+//! for the words on standard input; and compares another program's output with that.
 //!
 //!     oracle NAME SEED COUNT > FILE
 //!     oracle region < WORDS
+//!     oracle compare SEED COUNT PROGRAM
+//!     oracle panel > FILE
 #![allow(dead_code)]
 #![allow(clippy::all)]
 
@@ -20,6 +22,7 @@ mod region;
 mod runs;
 mod scores;
 mod stand_ins;
+mod streams;
 
 use stand_ins::{bio_ids, read_binding, read_model, read_projection};
 use std::io::{Read, Write};
@@ -32,9 +35,18 @@ fn main() {
         print!("{}", region::printed(&input));
         return;
     }
+    if words == ["panel"] {
+        std::io::stdout().write_all(&streams::panel()).expect("the panel is written");
+        return;
+    }
+    if words.len() == 4 && words[0] == "compare" {
+        let number = |i: usize| words[i].parse::<u64>().expect("a number");
+        let same = streams::compare(&words[3], number(1), number(2));
+        std::process::exit(i32::from(!same));
+    }
     let number = |i: usize| words.get(i).and_then(|w| w.parse::<u64>().ok());
     let (Some(name), Some(seed), Some(count)) = (words.first(), number(1), number(2)) else {
-        eprintln!("usage: oracle elementary|kernel|runs|calls|clips|scores|sums SEED COUNT > FILE, or oracle region < WORDS");
+        eprintln!("usage: oracle elementary|kernel|runs|calls|clips|scores|sums|streams SEED COUNT > FILE, oracle region < WORDS, oracle compare SEED COUNT PROGRAM, or oracle panel > FILE");
         std::process::exit(2);
     };
     let mut out = std::io::BufWriter::new(std::io::stdout().lock());
@@ -46,6 +58,7 @@ fn main() {
         "clips" => clips::clip_list(seed, count, &mut out),
         "scores" => scores::score_list(seed, count, &mut out),
         "sums" => scores::sum_list(seed, count, &mut out),
+        "streams" => streams::stream_list(seed, count, &mut out),
         _ => {
             eprintln!("oracle: no list named {name}");
             std::process::exit(2);
