@@ -1,7 +1,7 @@
 -- A look that answers a line leaves fewer looks at its word, so that a caller's loop comes to an end. Assumes nothing.
-use mathlib.Core.Path.{_≡_, refl, sym, ap, subst, _∙_}
+use mathlib.Core.Path.{_≡_, refl, sym}
 use mathlib.Core.List.{List}
-use Prim.Native.Nat.{ℕ, _≤_, _<_, min}
+use Prim.Native.Nat.{ℕ, _≤_, _<_}
 use native.Mathlib.Omega.{arith}
 use lib.ListN.{length, take}
 use lib.Ieee.{Float}
@@ -13,7 +13,7 @@ use Rattle.region_stream.specs.declared.Step.{Step}
 use Rattle.region_stream.specs.declared.Step.the-variants.{Go, Line, Refused}
 use Rattle.region_stream.specs.Program.{Place, atSettings, atLoci, inPile, line, look}
 use Rattle.region_stream.specs.Stream.{placeOf, seen, answerOf, looksIn, looksLeft, LinesEnd}
-use Rattle.region_stream.proofs.Looks.{NoPile, settings, loci, Fewer, line-fewer}
+use Rattle.region_stream.proofs.Looks.{NoPile, settings, loci, line-fewer}
 
 pub looks-few : (s : RegionStream) → looksLeft s ≤ 4099
 looks-few s = go (s .phase) (s .profile .count)

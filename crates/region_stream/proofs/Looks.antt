@@ -3,7 +3,7 @@
 use mathlib.Core.Path.{_≡_, refl, sym, ap, subst, _∙_}
 use mathlib.Core.Bool.{Bool, true, false, cond, _||_}
 use mathlib.Core.List.{List, [], _∷_}
-use Prim.Native.Nat.{ℕ, zero, suc, _+_, _-_, _≤_, _<_}
+use Prim.Native.Nat.{ℕ, zero, suc, _-_, _≤_, _<_}
 use native.Mathlib.Omega.{arith}
 use lib.Dec.{ltb, eqb}
 use lib.ListN.{length}
@@ -20,7 +20,7 @@ use Rattle.activity_profile.specs.Pop.{PopAnswer, refusedPop, emptyPop, heldPop
 use Rattle.activity_profile.proofs.Cuts.{cut-is}
 use Rattle.region_stream.specs.declared.StreamSettings.{StreamSettings}
 use Rattle.region_stream.specs.Settings.{paramsOf, fieldOf, valueOf, withField}
-use Rattle.region_stream.specs.Program.{bufferSize, Reading, Place, atSettings, atLoci, inPile, Ending, goesOn, stopsAt, Answer, goes, line, stops, holding, kindOf, pileScore, scoreAdded, scoreCells, endedWith, ended, endPile, andThen, madeWith, openedAt, opened, observedAt, observed, poppedBy, popMade, popUnmade, popAt, poppedFor, popped, setBy, setAt, look, Printed, printed, refusedAt, after, printedBy, looks, closed, atEnd, program}
+use Rattle.region_stream.specs.Program.{bufferSize, Reading, Place, atSettings, atLoci, inPile, Ending, goesOn, stopsAt, Answer, goes, line, stops, holding, kindOf, pileScore, scoreAdded, scoreCells, endedWith, ended, endPile, andThen, madeWith, openedAt, opened, observedAt, observed, poppedBy, popMade, popAt, poppedFor, popped, setBy, setAt, look, Printed, printed, refusedAt, after, looks, closed, atEnd, program}
 use Rattle.region_stream.specs.Feeding.{Fed, atLast, onward, again, halted}
 
 -- ---- one pop

@@ -1,8 +1,8 @@
 -- What the definitions come to at each place of a stream, said of the code's state. Assumes nothing.
-use mathlib.Core.Path.{_≡_, refl, sym, ap, _∙_}
-use mathlib.Core.Bool.{Bool, true, false, cond, _||_}
-use mathlib.Core.List.{List, [], _∷_, _++_}
-use Prim.Native.Nat.{ℕ, zero, suc, _+_, _≤_, _<_}
+use mathlib.Core.Path.{_≡_, ap}
+use mathlib.Core.Bool.{false}
+use mathlib.Core.List.{List}
+use Prim.Native.Nat.{ℕ, _+_, _≤_, _<_}
 use native.Mathlib.Omega.{arith}
 use native.Mathlib.Numerals.{add-one}
 use borrow.Author.Tests.{lt-ltb, le-ltb}
@@ -10,18 +10,16 @@ use lib.Dec.{ltb, eqb}
 use lib.ListN.{length, take, set}
 use lib.Seq.{length-take-le, take-all, take-suc-set}
 use lib.Ieee.{Float}
-use Rattle.genome.specs.Refusals.{Outcome, refused, answered}
-use Rattle.band_pass_kernel.specs.Kernel.{band, gaussianKernel}
+use Rattle.genome.specs.Refusals.{refused, answered}
 use Rattle.activity_profile.specs.declared.BandPassActivityProfile.{BandPassActivityProfile}
 use Rattle.activity_profile.specs.Making.{making, fullAfterMaking, narrowAfterMaking}
 use Rattle.activity_profile.proofs.Fresh.{kernel-made}
 use Rattle.activity_scoring.specs.Score.{maxDepth}
 use Rattle.region_stream.specs.declared.RegionStream.{RegionStream}
-use Rattle.region_stream.specs.declared.Phase.{Phase}
-use Rattle.region_stream.specs.declared.Phase.the-variants.{Settings, Loci, Pile}
+use Rattle.region_stream.specs.declared.Phase.the-variants.{Settings, Pile}
 use Rattle.region_stream.specs.Settings.{paramsOf}
-use Rattle.region_stream.specs.Program.{Reading, Place, atSettings, atLoci, inPile, goesOn, stopsAt, goes, stops, next, bufferSize, bitsOf, pileScore, scoreAdded, scoreCells, endedWith, ended, endPile, madeWith, openedAt, opened, deepened, observedAt, observed, poppedFor, popAt, popMade, popUnmade}
-use Rattle.region_stream.specs.Stream.{placeOf, kernelIn, kernelOf, seen, closedWith, startedWith, pileAt, cellsAnswered, pileObserved}
+use Rattle.region_stream.specs.Program.{Reading, atSettings, atLoci, inPile, goesOn, stopsAt, goes, stops, next, bufferSize, bitsOf, pileScore, scoreAdded, scoreCells, endedWith, ended, endPile, madeWith, openedAt, opened, deepened, observedAt, observed, poppedFor, popAt, popMade, popUnmade}
+use Rattle.region_stream.specs.Stream.{kernelIn, seen, closedWith, startedWith, pileAt, pileObserved}
 use Rattle.region_stream.proofs.Kept.{filter-scored}
 
 -- ---- the end of a pile

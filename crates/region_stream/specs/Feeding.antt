@@ -4,7 +4,7 @@ use mathlib.Core.Bool.{Bool}
 use mathlib.Core.List.{List, [], _∷_}
 use Prim.Native.Nat.{ℕ}
 use Rattle.activity_profile.specs.declared.ActivityProfileRegion.{ActivityProfileRegion}
-use Rattle.region_stream.specs.Program.{Reading, Answer, goes, line, stops, look, atEnd, Printed, printed, refusedAt, after, closed}
+use Rattle.region_stream.specs.Program.{Reading, goes, line, stops, look, atEnd, Printed, printed, refusedAt, after, closed}
 
 -- The caller looks at each word in its order; after a line it prints it and looks at the same word again; at a refusal it prints that and stops;
 -- past the last word it looks at the end of the input, `remainder` being whether bytes are left over. The last argument is what it has printed.

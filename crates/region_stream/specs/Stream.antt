@@ -1,7 +1,7 @@
 -- The code's state and answers in the terms of the program's definition, and what becomes of each lent slice.
-use mathlib.Core.Bool.{Bool, cond}
+use mathlib.Core.Bool.{cond}
 use mathlib.Core.List.{List, []}
-use Prim.Native.Nat.{ℕ, _+_, _<_, min}
+use Prim.Native.Nat.{ℕ, _<_, min}
 use lib.Dec.{ltb, eqb}
 use lib.ListN.{length, take, set}
 use lib.Ieee.{Float}

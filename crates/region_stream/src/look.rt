@@ -23,7 +23,7 @@ ghost use lib.Ieee.{Float};
 ghost use Prim.Native.Nat.{ℕ};
 ghost use lib.ListN.{length, take};
 ghost use Rattle.activity_scoring.specs.Score.{scoredOf};
-ghost use Rattle.region_stream.specs.Program.{bitsOf, bufferSize, scoreAdded, scoreCells, pileScore, endPile, andThen, opened, observed, popMade, popUnmade, popped, look, remaining, lookAtRemainder, lookAtEnd, goesOn, goes, poppedFor};
+ghost use Rattle.region_stream.specs.Program.{bufferSize, scoreAdded, scoreCells, pileScore, endPile, andThen, opened, observed, popMade, popUnmade, popped, look, remaining, lookAtRemainder, lookAtEnd, goesOn, goes, poppedFor};
 ghost use Rattle.region_stream.specs.Program.{set as setWord};
 ghost use Rattle.region_stream.specs.Stream.{seen, newStream, closedWith, startedWith, pileAt, advancedTo, settledWith, pileAddedOf, refusedScore, endingOf, answerOf, cellsEnded, cellsAnswered, cellsThen, cellsAfter, fullThen, narrowThen, fullAfter, narrowAfter, pileObserved, pileAfter, LinesEnd};
 
