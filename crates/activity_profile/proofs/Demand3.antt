@@ -17,7 +17,7 @@ use Rattle.activity_profile.specs.Making.{making}
 use Rattle.activity_profile.specs.Loci.{cell}
 use Rattle.activity_profile.specs.Verdict.{Verdict, refusal, granted}
 use Rattle.activity_profile.specs.Profile.{waiting}
-use Rattle.activity_profile.specs.Add.{at, addVerdict, addedProfile, addAnswerBy, addAnswer}
+use Rattle.activity_profile.specs.Add.{addVerdict, addedProfile, addAnswerBy, addAnswer}
 use Rattle.activity_profile.specs.Pop.{Turn, empty, held, ready, popVerdict, turn, kept, above, popSize, regionOf, heldPop, regionPop, popAnswerBy, popAnswer}
 use Rattle.activity_profile.specs.Run.{Call, Add, Pop, lastOf, Lent, afterAdd, afterPop, step, locusOf, lociOf, acceptedBy, poppedBy, after, acceptedIn, poppedIn, Sound, Faithful}
 use Rattle.activity_profile.proofs.Loci.{length-loci, lastOf-loci}

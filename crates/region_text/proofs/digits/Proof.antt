@@ -1,6 +1,5 @@
 -- `digits` meets its contract: what is left of the number, written before what is there, is the same text at each turn.
 use Prim.Native.Nat.{_-_, _≤_}
-use Rattle.activity_profile.specs.Add.{at}
 use Rattle.activity_profile.specs.Pop.{rest}
 use Rattle.region_text.proofs.Writing.{both, digits-end, digits-last, digits-turn, said}
 use Rattle.region_text.specs.Text.{decimal, digitsOnto}

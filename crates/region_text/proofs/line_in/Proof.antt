@@ -1,5 +1,4 @@
 -- `line_in` meets its contract: five numbers, the last first, each before what is there.
-use Rattle.activity_profile.specs.Add.{at}
 use Rattle.region_text.proofs.Writing.{both}
 use borrow.Author.Needs.{needs}
 use native.Mathlib.Omega.{arith}

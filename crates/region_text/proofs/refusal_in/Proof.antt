@@ -1,5 +1,4 @@
 -- `refusal_in` meets its contract: the index, the number and the word, the last first.
-use Rattle.activity_profile.specs.Add.{at}
 use Rattle.region_text.proofs.Writing.{both, within}
 use borrow.Author.Needs.{needs}
 use native.Mathlib.Omega.{arith}

@@ -1,5 +1,4 @@
 -- `replay_next` is safe: an answer's words are no more than the slice has.
-use Rattle.activity_profile.specs.Add.{at}
 use borrow.Author.Needs.{needs}
 use lib.Seq.{length-take-le}
 use mathlib.Core.Path.{sym}

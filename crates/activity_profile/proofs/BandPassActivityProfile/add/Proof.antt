@@ -4,7 +4,7 @@ use mathlib.Core.Path.{_∙_, _≡_, refl, sym}
 use lib.Dec.{ltb}
 use lib.ListN.{length}
 use borrow.Author.Needs.{needs}
-use Rattle.activity_profile.specs.Add.{addAnswer, addAnswerBy, addCells, addCellsBy, addVerdict, at, brokenAdd, needed, noActivity, notNext, offContig, otherContig}
+use Rattle.activity_profile.specs.Add.{addAnswer, addAnswerBy, addCells, addCellsBy, addVerdict, brokenAdd, needed, noActivity, notNext, offContig, otherContig}
 use Rattle.activity_profile.specs.Verdict.{granted}
 use Rattle.activity_profile.proofs.BandPassActivityProfile.add.Statement.{statement}
 use Rattle.activity_profile.proofs.BandPassActivityProfile.add.Tie as tie

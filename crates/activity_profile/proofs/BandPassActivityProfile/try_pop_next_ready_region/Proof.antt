@@ -4,7 +4,6 @@ use mathlib.Core.Path.{_∙_, _≡_, refl, sym}
 use lib.ListN.{length}
 use borrow.Author.Needs.{needs}
 use borrow.Author.Tests.{eq-eqb, ne-eqb}
-use Rattle.activity_profile.specs.Add.{at}
 use Rattle.activity_profile.specs.Pop.{popAnswer, popAnswerBy, popCells, popCellsBy, popVerdict, ready, turn}
 use Rattle.activity_profile.specs.Profile.{broken}
 use Rattle.activity_profile.specs.Verdict.{granted}

@@ -1,6 +1,6 @@
 -- `cells_needed` meets its contract: the larger of the count and the reach.
 use borrow.Author.Needs.{needs}
-use Rattle.activity_profile.specs.Add.{at, needed}
+use Rattle.activity_profile.specs.Add.{needed}
 use Rattle.activity_profile.proofs.add.cells_needed.Statement.{statement}
 use Rattle.activity_profile.proofs.add.cells_needed.Tie as tie
 

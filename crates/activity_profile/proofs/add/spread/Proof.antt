@@ -7,7 +7,7 @@ use lib.Ieee.{nan}
 use lib.ListN.{getD, length, length-set}
 use borrow.Author.Needs.{needs}
 use borrow.Author.Tests.{le-ltb, lt-ltb}
-use Rattle.activity_profile.specs.Add.{at, times, weight}
+use Rattle.activity_profile.specs.Add.{times, weight}
 use Rattle.activity_profile.specs.Window.{gained, held, off}
 use Rattle.lists.specs.Each.{getD-upTo-above, upTo, upTo-all, upTo-put, upTo-zero}
 use Rattle.activity_profile.proofs.add.spread.Statement.{statement}

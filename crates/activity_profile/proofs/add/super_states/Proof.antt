@@ -1,7 +1,7 @@
 -- `super_states` meets its contract: the offsets on the contig are counted from their two ends.
 use borrow.Author.Needs.{needs}
 use Rattle.activity_profile.proofs.Adds.{clips-is}
-use Rattle.activity_profile.specs.Add.{at, superStates}
+use Rattle.activity_profile.specs.Add.{superStates}
 use Rattle.activity_profile.proofs.add.super_states.Statement.{statement}
 use Rattle.activity_profile.proofs.add.super_states.Tie as tie
 

@@ -5,7 +5,7 @@ use native.Mathlib.Omega.{arith}
 use lib.Ieee.{add, binary64}
 use borrow.Author.Needs.{needs}
 use Rattle.activity_profile.proofs.Adds.{times-end, times-one, times-turn}
-use Rattle.activity_profile.specs.Add.{at, times}
+use Rattle.activity_profile.specs.Add.{times}
 use Rattle.activity_profile.proofs.add.times_of.Statement.{statement}
 use Rattle.activity_profile.proofs.add.times_of.Tie as tie
 

@@ -5,7 +5,6 @@ use mathlib.Core.Path.{_∙_, _≡_, ap, refl, sym}
 use native.Mathlib.Omega.{arith}
 use borrow.Author.Needs.{needs}
 use Rattle.activity_profile.proofs.Cases.{better-below, better-keeps, better-takes, orMost-none, orMost-some}
-use Rattle.activity_profile.specs.Add.{at}
 use Rattle.activity_profile.specs.Pop.{bestCutSite, better, orMost}
 use Rattle.lists.specs.Loops.{down, down-turn}
 use Rattle.activity_profile.proofs.pop.find_best_cut_site.Statement.{statement}

@@ -6,7 +6,6 @@ use lib.Ieee.{nan}
 use lib.ListN.{drop, length, length-take, take}
 use lib.Seq.{getD-take}
 use borrow.Author.Needs.{needs}
-use Rattle.activity_profile.specs.Add.{at}
 use Rattle.activity_profile.specs.Pop.{otherSide}
 use Rattle.lists.specs.Loops.{firstAt, firstAt-end, firstAt-stop, firstAt-turn}
 use Rattle.activity_profile.proofs.pop.find_first_activity_boundary.Statement.{statement}

@@ -1,6 +1,5 @@
 -- `kept_cells` meets its contract: the trim of a forced pop, or the count.
 use borrow.Author.Needs.{needs}
-use Rattle.activity_profile.specs.Add.{at}
 use Rattle.activity_profile.specs.Pop.{kept}
 use Rattle.activity_profile.proofs.pop.kept_cells.Statement.{statement}
 use Rattle.activity_profile.proofs.pop.kept_cells.Tie as tie

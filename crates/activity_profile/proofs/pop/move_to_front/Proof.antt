@@ -7,7 +7,6 @@ use lib.Ieee.{nan}
 use lib.ListN.{getD, length, length-set}
 use borrow.Author.Needs.{needs}
 use borrow.Author.Tests.{le-ltb, lt-ltb}
-use Rattle.activity_profile.specs.Add.{at}
 use Rattle.activity_profile.specs.Pop.{movedCell}
 use Rattle.lists.specs.Each.{getD-upTo-above, upTo, upTo-put, upTo-rest, upTo-zero}
 use Rattle.activity_profile.proofs.pop.move_to_front.Statement.{statement}

@@ -5,7 +5,6 @@ use lib.ListN.{length-take}
 use lib.Seq.{length-take-le}
 use borrow.Author.Needs.{needs}
 use Rattle.activity_profile.proofs.Cuts.{Cut, cut-is}
-use Rattle.activity_profile.specs.Add.{at}
 use Rattle.activity_profile.specs.Pop.{kept, popAnswerBy, popCellsBy, popSize, rest}
 use Rattle.activity_profile.proofs.pop.pop_ready.Statement.{statement}
 use Rattle.activity_profile.proofs.pop.pop_ready.Tie as tie

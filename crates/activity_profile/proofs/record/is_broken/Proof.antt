@@ -1,6 +1,5 @@
 -- `is_broken` meets its contract: its tests are the definition's, around the two that it calls.
 use borrow.Author.Needs.{needs}
-use Rattle.activity_profile.specs.Add.{at}
 use Rattle.activity_profile.specs.Profile.{broken}
 use Rattle.activity_profile.proofs.record.is_broken.Statement.{statement}
 use Rattle.activity_profile.proofs.record.is_broken.Tie as tie

@@ -1,6 +1,5 @@
 -- `append` is safe: the buffer has room for a whole text.
 use Prim.Native.Nat.{_+_, _-_, _≤_}
-use Rattle.activity_profile.specs.Add.{at}
 use Rattle.region_stream.specs.Stream.{start}
 use borrow.Author.Needs.{needs}
 use lib.ListN.{length, length-set}

@@ -1,5 +1,4 @@
 -- `word` meets its contract: it is `look_at` on the whole of each array, and a line leaves fewer looks (proofs/Lines).
-use Rattle.activity_profile.specs.Add.{at}
 use Rattle.region_stream.proofs.Lines.{lines-end}
 use Rattle.region_stream.specs.Stream.{cellsAfter, fullAfter, narrowAfter, pileAfter, seen}
 use borrow.Author.Needs.{needs}

@@ -1,5 +1,4 @@
 -- `set` meets its contract: its tests are the fields in their order.
-use Rattle.activity_profile.specs.Add.{at}
 use Rattle.region_stream.specs.Settings.{withField}
 use borrow.Author.Needs.{needs}
 use borrow.Author.Tests.{eq-eqb, ne-eqb}

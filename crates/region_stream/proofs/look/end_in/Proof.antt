@@ -1,5 +1,4 @@
 -- `end_in` meets its contract: the pile is ended, and nothing more is done.
-use Rattle.activity_profile.specs.Add.{at}
 use Rattle.region_stream.specs.Program.{andThen, goes}
 use Rattle.region_stream.specs.Stream.{cellsEnded, cellsThen}
 use borrow.Author.Needs.{needs}

@@ -1,5 +1,4 @@
 -- `end_pile` meets its contract by the place: without a pile nothing changes, and a pile's score is added with the kernel of the buffers.
-use Rattle.activity_profile.specs.Add.{at}
 use Rattle.region_stream.proofs.Kept.{cells-scored}
 use Rattle.region_stream.proofs.Places.{ends-added, ends-refused}
 use Rattle.region_stream.specs.Program.{ended}

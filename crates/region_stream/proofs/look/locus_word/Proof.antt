@@ -1,5 +1,4 @@
 -- `locus_word` meets its contract: the pile is ended, and then the locus's is opened on what that leaves.
-use Rattle.activity_profile.specs.Add.{at}
 use Rattle.region_stream.proofs.Kept.{cells-opened}
 use Rattle.region_stream.specs.Program.{andThen, opened}
 use Rattle.region_stream.specs.Stream.{cellsEnded, cellsThen, fullThen, narrowThen}

@@ -1,5 +1,4 @@
 -- `observation_word` meets its contract by the place, and by whether the pile has room for a word more.
-use Rattle.activity_profile.specs.Add.{at}
 use Rattle.region_stream.proofs.Places.{observes-more, observes-no-more, takes-more, takes-no-more}
 use Rattle.region_stream.specs.Program.{observedAt}
 use borrow.Author.Needs.{needs}

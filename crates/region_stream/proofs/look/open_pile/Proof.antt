@@ -1,5 +1,4 @@
 -- `open_pile` meets its contract: the first locus has the profile made, whose kernel then stands in the buffers; any other opens its pile.
-use Rattle.activity_profile.specs.Add.{at}
 use Rattle.activity_profile.specs.Making.{makingOf}
 use Rattle.region_stream.proofs.Places.{opens-made, opens-refused}
 use Rattle.region_stream.specs.Program.{openedAt}

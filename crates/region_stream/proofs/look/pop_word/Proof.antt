@@ -1,5 +1,4 @@
 -- `pop_word` meets its contract: the pile is ended, and then one pop is made of what that leaves.
-use Rattle.activity_profile.specs.Add.{at}
 use Rattle.region_stream.specs.Program.{andThen, popped}
 use Rattle.region_stream.specs.Stream.{cellsEnded, cellsThen}
 use borrow.Author.Needs.{needs}

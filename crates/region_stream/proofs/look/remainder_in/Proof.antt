@@ -1,5 +1,4 @@
 -- `remainder_in` meets its contract: the pile is ended, and then the remainder is refused.
-use Rattle.activity_profile.specs.Add.{at}
 use Rattle.region_stream.specs.Program.{andThen, remaining}
 use Rattle.region_stream.specs.Stream.{cellsEnded, cellsThen}
 use borrow.Author.Needs.{needs}

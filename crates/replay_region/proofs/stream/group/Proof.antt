@@ -1,6 +1,5 @@
 -- `group` ends: it goes through its words once.
 use Prim.Native.Nat.{_-_}
-use Rattle.activity_profile.specs.Add.{at}
 use borrow.Author.Needs.{needs}
 use Rattle.replay_region.proofs.stream.group.Statement.{statement}
 use Rattle.replay_region.proofs.stream.group.Tie as tie

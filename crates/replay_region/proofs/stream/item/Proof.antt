@@ -1,6 +1,5 @@
 -- `item` ends: it goes through its times once.
 use Prim.Native.Nat.{_-_}
-use Rattle.activity_profile.specs.Add.{at, times}
 use Rattle.activity_profile.specs.Run.{step}
 use borrow.Author.Needs.{needs}
 use Rattle.replay_region.proofs.stream.item.Statement.{statement}

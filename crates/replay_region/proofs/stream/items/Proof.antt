@@ -1,6 +1,5 @@
 -- `items` ends: it goes through the items once.
 use Prim.Native.Nat.{_-_}
-use Rattle.activity_profile.specs.Add.{at}
 use borrow.Author.Needs.{needs}
 use Rattle.replay_region.proofs.stream.items.Statement.{statement}
 use Rattle.replay_region.proofs.stream.items.Tie as tie

@@ -1,6 +1,5 @@
 -- `text_of` ends: it goes through the items once.
 use Prim.Native.Nat.{_-_}
-use Rattle.activity_profile.specs.Add.{at}
 use borrow.Author.Needs.{needs}
 use Rattle.replay_region.proofs.stream.text_of.Statement.{statement}
 use Rattle.replay_region.proofs.stream.text_of.Tie as tie

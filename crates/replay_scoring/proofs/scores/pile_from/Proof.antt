@@ -1,7 +1,6 @@
 -- `pile_from` is safe: each index is below n.
 use Prim.Native.Nat.{_-_, _≤_}
 use borrow.Author.Needs.{needs}
-use Rattle.activity_profile.specs.Add.{at}
 use Rattle.replay_scoring.proofs.scores.pile_from.Statement.{statement}
 use Rattle.replay_scoring.proofs.scores.pile_from.Tie as tie
 

@@ -1,6 +1,5 @@
 -- `text` ends: it goes through the bytes once.
 use Prim.Native.Nat.{_-_}
-use Rattle.activity_profile.specs.Add.{at}
 use Rattle.region_stream.specs.Stream.{start}
 use borrow.Author.Needs.{needs}
 use Rattle.replay_region.proofs.expected.Expected.text.Statement.{statement}
