@@ -1,0 +1,2 @@
+pub mod EveryLocus
+pub mod Refused
