@@ -1,6 +1,5 @@
 // The region program: document 01's chapter of that name. It reads words from standard input and writes lines to standard output, in
-// constant memory. What each word does, and the text of each line, is region_stream's and
-// region_text's.
+// constant memory. What each word does is region_stream's, and the text of each line region_text's.
 mod output;
 
 use libc::STDIN_FILENO;
