@@ -1,5 +1,7 @@
 pub mod Kept
 pub mod Places
+pub mod Ends
+pub mod Printing
 pub mod Looks
 pub mod Lines
 pub mod Depth

@@ -13,7 +13,8 @@ use Rattle.region_stream.specs.declared.Step.{Step}
 use Rattle.region_stream.specs.declared.Step.the-variants.{Go, Line, Refused}
 use Rattle.region_stream.specs.Program.{Place, atSettings, atLoci, inPile, line, look}
 use Rattle.region_stream.specs.Stream.{placeOf, seen, answerOf, looksIn, looksLeft, LinesEnd}
-use Rattle.region_stream.proofs.Looks.{NoPile, settings, loci, line-fewer}
+use Rattle.region_stream.proofs.Ends.{NoPile, settings, loci}
+use Rattle.region_stream.proofs.Printing.{line-fewer}
 
 pub looks-few : (s : RegionStream) → looksLeft s ≤ 4099
 looks-few s = go (s .phase) (s .profile .count)

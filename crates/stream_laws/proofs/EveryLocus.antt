@@ -1,28 +1,20 @@
 -- Demand 3 of the region program: whatever its words are, what it does to its profile is a list of adds and pops, so that the lines printed and the
 -- loci still waiting are the loci that were accepted. Assumes nothing.
 use mathlib.Core.Path.{_≡_, refl, sym, ap, subst, _∙_}
-use mathlib.Core.Bool.{Bool, true, false, cond, not, _||_}
-use mathlib.Core.List.{List, [], _∷_, _++_, append-nil, append-assoc}
+use mathlib.Core.Bool.{Bool, true, false, cond, _||_}
+use mathlib.Core.List.{List, [], _∷_, _++_, append-nil}
 use Prim.Native.Nat.{ℕ, _≤_}
-use native.Mathlib.Omega.{arith}
 use lib.Dec.{ltb, eqb}
-use lib.ListN.{length}
 use lib.Ieee.{Float}
 use Rattle.genome.specs.Refusals.{Outcome, refused, answered}
 use Rattle.activity_profile.specs.declared.BandPassActivityProfile.{BandPassActivityProfile}
 use Rattle.activity_profile.specs.declared.ActivityProfileRegion.{ActivityProfileRegion}
 use Rattle.activity_profile.specs.declared.ActivityProfileState.{ActivityProfileState}
-use Rattle.doubles.specs.Constants.{zeroF}
-use Rattle.activity_profile.specs.declared.ActivityEvidence.the-variants.{Plain}
-use Rattle.activity_profile.specs.Loci.{loci}
 use Rattle.activity_profile.specs.Profile.{waiting}
 use Rattle.activity_profile.specs.Making.{making}
 use Rattle.activity_profile.specs.Add.{at, AddAnswer, refusedAdd, acceptedAdd, addAnswer, addCells}
 use Rattle.activity_profile.specs.Pop.{PopAnswer, refusedPop, emptyPop, heldPop, regionPop, popAnswer, popCells}
 use Rattle.activity_profile.specs.Run.{Call, Add, Pop, Lent, step, after, acceptedBy, acceptedIn, poppedBy, poppedIn, Faithful}
-use Rattle.genotype_likelihoods.specs.Settings.{defaults}
-use Rattle.activity_scoring.specs.Mean.{meanOf}
-use Rattle.activity_scoring.specs.Score.{inRange, maxDepth, allObservations, evidenceOf, activityOf, state, stateOf, scoreOf}
 use Rattle.activity_profile.proofs.Demand3.{demand-3}
 use Rattle.region_stream.specs.declared.StreamSettings.{StreamSettings}
 use Rattle.region_stream.specs.Settings.{paramsOf, fieldOf, valueOf, withField}
@@ -30,80 +22,14 @@ use Rattle.region_stream.specs.Program.{Reading, Place, atSettings, atLoci, inP
 use Rattle.region_stream.specs.Program.{poppedBy as popAnswered}
 use Rattle.region_stream.specs.Stream.{start}
 use Rattle.stream_laws.specs.Reach.{readAt, readBy, Reached, nothing-yet, going, printing, linesLoci, OfCalls}
-
--- ---- one call more
-
-after-more : (l : Lent) (cs : List Call) (c : Call) → after l (cs ++ (c ∷ [])) ≡ step (after l cs) c
-unfolding after
-after-more l [] c = refl
-after-more l (x ∷ cs) c = after-more (step l x) cs c
-
-popped-more : (l : Lent) (cs : List Call) (c : Call) → poppedIn l (cs ++ (c ∷ [])) ≡ poppedIn l cs ++ poppedBy (after l cs) c
-unfolding after poppedIn
-popped-more l [] c = append-nil (poppedBy l c)
-popped-more l (x ∷ cs) c = ap (λ t. poppedBy l x ++ t) (popped-more (step l x) cs c) ∙ sym (append-assoc (poppedBy l x) (poppedIn (step l x) cs) (poppedBy (after (step l x) cs) c))
-
-accepted-more : (l : Lent) (cs : List Call) (c : Call) → acceptedIn l (cs ++ (c ∷ [])) ≡ acceptedIn l cs ++ acceptedBy (after l cs) c
-unfolding after acceptedIn
-accepted-more l [] c = append-nil (acceptedBy l c)
-accepted-more l (x ∷ cs) c = ap (λ t. acceptedBy l x ++ t) (accepted-more (step l x) cs c) ∙ sym (append-assoc (acceptedBy l x) (acceptedIn (step l x) cs) (acceptedBy (after (step l x) cs) c))
-
-loci-more : (lines : List ActivityProfileRegion) (r : ActivityProfileRegion) → linesLoci (lines ++ (r ∷ [])) ≡ linesLoci lines ++ loci (r .start) (r .end)
-loci-more [] r = append-nil (loci (r .start) (r .end))
-loci-more (x ∷ lines) r = ap (λ t. loci (x .start) (x .end) ++ t) (loci-more lines r) ∙ sym (append-assoc (loci (x .start) (x .end)) (linesLoci lines) (loci (r .start) (r .end)))
-
--- what a reading lends a call
-abbrev lent : Reading → Lent
-lent s = record { profile = s .profile; cells = s .cells }
-
--- u is s after a call, with what the call accepted read and what it popped printed
-more : (cells : List Float) (read read′ : List ℕ) (lines lines′ : List ActivityProfileRegion) (s u : Reading) (c : Call) → u .settings ≡ s .settings → OfCalls cells read lines s
-    → step (lent s) c ≡ lent u → read′ ≡ read ++ acceptedBy (lent s) c → linesLoci lines′ ≡ linesLoci lines ++ poppedBy (lent s) c → OfCalls cells read′ lines′ u
-more cells read read′ lines lines′ s u c same o e g f =
-    let fresh : Lent = record { profile = o .made; cells = cells } in
-    record {
-      made = o .made;
-      by-making = subst (λ (t : StreamSettings). making 0 (t .«contig_len») (paramsOf t) bufferSize bufferSize ≡ answered (o .made)) (sym same) (o .by-making);
-      calls = o .calls ++ (c ∷ []);
-      left = after-more fresh (o .calls) c ∙ ap (λ (l : Lent). step l c) (o .left) ∙ e;
-      accepted = accepted-more fresh (o .calls) c ∙ ap (λ t. t ++ acceptedBy (after fresh (o .calls)) c) (o .accepted) ∙ ap (λ (l : Lent). read ++ acceptedBy l c) (o .left) ∙ sym g;
-      popped = popped-more fresh (o .calls) c ∙ ap (λ t. t ++ poppedBy (after fresh (o .calls)) c) (o .popped) ∙ ap (λ (l : Lent). linesLoci lines ++ poppedBy l c) (o .left) ∙ sym f;
-    }
-
--- a score is that of the pile's locus
-cond-answered : (b : Bool) (n : ℕ) (o : Outcome ActivityProfileState) (x : ActivityProfileState) → cond b (refused n) o ≡ answered x → o ≡ answered x
-cond-answered true n o x e = absurd (let z : _≡_ {A = ℕ} 0 1 = cc in omega arith)
-cond-answered false n o x e = e
-
-state-at : (p : ℕ) (words : List ℕ) → at (stateOf 0 (record { 0 = p }) words defaults) ≡ p
-unfolding stateOf
-state-at p words = go (eqb (length words) 0)
-  where
-    go : (b : Bool) → at (cond b (state 0 (record { 0 = p }) (record { probability = zeroF; original = zeroF }) Plain) (state 0 (record { 0 = p }) (activityOf words defaults) (evidenceOf (meanOf defaults words)))) ≡ p
-    go true = refl
-    go false = refl
-
-score-at : (p : ℕ) (words : List ℕ) (x : ActivityProfileState) → pileScore p words ≡ answered x → at x ≡ p
-unfolding scoreOf
-score-at p words x e =
-    let f = cond-answered (not (allObservations words)) 3 _ x (cond-answered (ltb maxDepth (length words)) 4 _ x (cond-answered (not (inRange (record { 0 = p }) defaults)) 1 _ x e)) in
-    let g : stateOf 0 (record { 0 = p }) words defaults ≡ x = cc in
-    ap at (sym g) ∙ state-at p words
+use Rattle.stream_laws.proofs.Calls.{more, loci-more}
+use Rattle.stream_laws.proofs.Scores.{score-of, past, loci-past, pile-past}
 
 -- ---- where a stream stands
 
 data Trace (cells : List Float) (read : List ℕ) (lines : List ActivityProfileRegion) (s : Reading) : Type 0 where
   before : s .place ≡ atSettings → read ≡ [] → lines ≡ [] → s .cells ≡ cells → Trace cells read lines s
   within : (s .place ≡ atSettings → ⊥) → OfCalls cells read lines s → Trace cells read lines s
-
-past : (s : Reading) (x : Place) → s .place ≡ x → (x ≡ atSettings → ⊥) → s .place ≡ atSettings → ⊥
-past s x e n f = n (sym e ∙ f)
-
-loci-past : atLoci ≡ atSettings → ⊥
-loci-past e = let z : _≡_ {A = ℕ} 0 1 = cc in absurd (omega arith)
-
-pile-past : (p i : ℕ) (words : List ℕ) → inPile p i words ≡ atSettings → ⊥
-pile-past p i words e = let z : _≡_ {A = ℕ} 0 1 = cc in absurd (omega arith)
 
 -- past the first locus there are calls
 calls-of : (cells : List Float) (read : List ℕ) (lines : List ActivityProfileRegion) (s : Reading) → Trace cells read lines s → (s .place ≡ atSettings → ⊥) → OfCalls cells read lines s
@@ -226,7 +152,7 @@ end-after cells read lines s t = go (s .place) refl
     scored : (p i : ℕ) (words : List ℕ) → OfCalls cells read lines s → (sc : Outcome ActivityProfileState) → pileScore p words ≡ sc
         → EndAfter cells (read ++ (p ∷ [])) lines (endedWith i s (scoreCells (s .profile) (s .cells) (s .kernel) sc) (scoreAdded (s .profile) (s .cells) (s .kernel) sc))
     scored p i words o (refused n) e = tt
-    scored p i words o (answered x) e = added p i x (score-at p words x e) o (addAnswer (s .profile) (s .cells) (s .kernel) x) refl
+    scored p i words o (answered x) e = added p i x (score-of p words x e .position) o (addAnswer (s .profile) (s .cells) (s .kernel) x) refl
 
     go : (x : Place) → s .place ≡ x → EndAfter cells (read ++ readAt x) lines (ended s x)
     go atSettings e = subst (λ z. Trace cells z lines s) (sym (append-nil read)) t
