@@ -72,7 +72,7 @@ fn run(
 }
 
 fn start() -> State
-    ensures { λ r. ⌜ (r .at ≡ 0) × (r .output .used ≡ 0) ⌝ }
+    ensures { λ r. ⌜ r .at ≡ 0 ⌝ }
 {
     let stream = RegionStream::new();
     let output = Output::new();
@@ -87,16 +87,15 @@ fn start() -> State
 // Reads once and feeds what came, or ends the input.
 fn next_block(
     r: State,
-    input: &mut [u8],
-    lines: &mut [u8],
+    input: &mut [u8; BLOCK],
+    lines: &mut [u8; BLOCK],
     pile: &mut [u32; PILE],
     full: &mut [f64; KERNEL],
     narrow: &mut [f64; KERNEL],
     cells: &mut [f64; CELLS],
 ) -> State
-    requires { ⌜ (r .at ≤ 3) × (r .output .used ≡ 0) × (length (now input) ≡ 65536) × (length (now lines) ≡ 65536) ⌝ }
-    ensures { λ s. ⌜ (s .at ≤ 3) × (s .output .used ≡ 0) ⌝ }
-    ensures { λ _. ⌜ (length (now (input .exit)) ≡ 65536) × (length (now (lines .exit)) ≡ 65536) ⌝ }
+    requires { ⌜ r .at ≤ 3 ⌝ }
+    ensures { λ s. ⌜ s .at ≤ 3 ⌝ }
 {
     let block = read_block(input, r.at);
     match block {
@@ -134,15 +133,13 @@ fn feed(
     r: State,
     n: usize,
     input: &[u8],
-    lines: &mut [u8],
+    lines: &mut [u8; BLOCK],
     pile: &mut [u32; PILE],
     full: &mut [f64; KERNEL],
     narrow: &mut [f64; KERNEL],
     cells: &mut [f64; CELLS],
 ) -> State
-    requires { ⌜ (n ≤ length (now input)) × (n ≤ 65536) × (r .output .used ≡ 0) × (length (now lines) ≡ 65536) ⌝ }
-    ensures { λ s. ⌜ s .output .used ≤ 65536 ⌝ }
-    ensures { λ _. ⌜ length (now (lines .exit)) ≡ 65536 ⌝ }
+    requires { ⌜ (n ≤ length (now input)) × (n ≤ 65536) ⌝ }
 {
     let mut s = from_start(r);
     while s.at + 4 <= n {
@@ -157,7 +154,7 @@ fn feed(
 
 // The run at the block's first byte.
 fn from_start(r: State) -> State
-    ensures { λ s. ⌜ (s .at ≡ 0) × (s .output ≡ r .output) ⌝ }
+    ensures { λ s. ⌜ s .at ≡ 0 ⌝ }
 {
     let mut s = r;
     s.at = 0;
@@ -186,15 +183,14 @@ fn wide(byte: u8) -> u32
 fn look(
     r: State,
     w: u32,
-    lines: &mut [u8],
+    lines: &mut [u8; BLOCK],
     pile: &mut [u32; PILE],
     full: &mut [f64; KERNEL],
     narrow: &mut [f64; KERNEL],
     cells: &mut [f64; CELLS],
 ) -> State
-    requires { ⌜ (r .at ≤ 65532) × (r .output .used ≤ 65536) × (length (now lines) ≡ 65536) ⌝ }
-    ensures { λ s. ⌜ (s .at ≤ r .at + 4) × (s .output .used ≤ 65536) × (looksLeft (s .stream) + r .at * 1100 < looksLeft (r .stream) + s .at * 1100) ⌝ }
-    ensures { λ _. ⌜ length (now (lines .exit)) ≡ 65536 ⌝ }
+    requires { ⌜ r .at ≤ 65532 ⌝ }
+    ensures { λ s. ⌜ (s .at ≤ r .at + 4) × (looksLeft (s .stream) + r .at * 1100 < looksLeft (r .stream) + s .at * 1100) ⌝ }
 {
     let stream = r.stream;
     let step = stream.word(w, pile, full, narrow, cells);
@@ -239,9 +235,9 @@ fn keep_rest(input: &mut [u8], n: usize) -> usize
 }
 
 // The run once its lines are written, with so many bytes kept.
-fn flushed(r: State, kept: usize, lines: &[u8]) -> State
-    requires { ⌜ (kept ≤ 3) × (r .output .used ≤ 65536) × (length (now lines) ≡ 65536) ⌝ }
-    ensures { λ s. ⌜ (s .at ≤ 3) × (s .output .used ≡ 0) ⌝ }
+fn flushed(r: State, kept: usize, lines: &[u8; BLOCK]) -> State
+    requires { ⌜ kept ≤ 3 ⌝ }
+    ensures { λ s. ⌜ s .at ≤ 3 ⌝ }
 {
     let stream = r.stream;
     let output = r.output;
@@ -252,15 +248,13 @@ fn flushed(r: State, kept: usize, lines: &[u8]) -> State
 // The end of the input, with a remainder where bytes are kept; then the program is over.
 fn end(
     r: State,
-    lines: &mut [u8],
+    lines: &mut [u8; BLOCK],
     pile: &mut [u32; PILE],
     full: &mut [f64; KERNEL],
     narrow: &mut [f64; KERNEL],
     cells: &mut [f64; CELLS],
 ) -> State
-    requires { ⌜ (r .output .used ≡ 0) × (length (now lines) ≡ 65536) ⌝ }
-    ensures { λ s. ⌜ (s .at ≤ 3) × (s .output .used ≡ 0) ⌝ }
-    ensures { λ _. ⌜ length (now (lines .exit)) ≡ 65536 ⌝ }
+    ensures { λ s. ⌜ s .at ≤ 3 ⌝ }
 {
     let stream = r.stream;
     let output = r.output;
@@ -286,11 +280,7 @@ fn last_look(
 }
 
 // The line of the last look.
-fn last_line(step: Step, output: Output, lines: &mut [u8]) -> Output
-    requires { ⌜ (output .used ≡ 0) × (length (now lines) ≡ 65536) ⌝ }
-    ensures { λ r. ⌜ r .used ≤ 65536 ⌝ }
-    ensures { λ _. ⌜ length (now (lines .exit)) ≡ 65536 ⌝ }
-{
+fn last_line(step: Step, output: Output, lines: &mut [u8; BLOCK]) -> Output {
     match step {
         Step::Go(_) => output,
         Step::Line(region, _) => output.line(region, lines),
@@ -300,7 +290,7 @@ fn last_line(step: Step, output: Output, lines: &mut [u8]) -> Output
 
 // The run, over.
 fn stopped(r: State) -> State
-    ensures { λ s. ⌜ (s .at ≤ 3) × (s .output .used ≡ 0) ⌝ }
+    ensures { λ s. ⌜ s .at ≤ 3 ⌝ }
 {
     let stream = r.stream;
     run_at(stream, 0, Output::new(), true)

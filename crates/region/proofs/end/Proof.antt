@@ -1,4 +1,4 @@
--- `end` leaves no byte kept, and nothing waits after its flush.
+-- `end` leaves no byte kept.
 use borrow.Author.Needs.{needs}
 use native.Mathlib.Omega.{arith}
 use Rattle.region.proofs.end.Statement.{statement}
@@ -16,19 +16,10 @@ flush-requires c κs = search needs
 run-at-requires : tie.Need-run-at-requires
 run-at-requires c κs = search needs
 
-same-length : tie.Need-same-length
-same-length c = search needs
-
 returns : tie.Need-returns
-returns c = (rw (c .run-at .ensures) (omega (arith, c .before .flush .ensures)), omega (arith, c .before .before .before .before .before .last-line .ensures .1))
+returns c = rw (c .run-at .ensures) (omega arith)
 
 pub end-spec : {M : Type 1} → statement M
 end-spec =
     tie.close
-    (tie.spec
-    last-look-requires
-    last-line-requires
-    flush-requires
-    run-at-requires
-    same-length
-    returns)
+    (tie.spec last-look-requires last-line-requires flush-requires run-at-requires returns)

@@ -1,4 +1,4 @@
--- `flushed` keeps so many bytes, and nothing waits after a flush.
+-- `flushed` keeps so many bytes.
 use borrow.Author.Needs.{needs}
 use native.Mathlib.Omega.{arith}
 use Rattle.region.proofs.flushed.Statement.{statement}
@@ -11,7 +11,7 @@ run-at-requires : tie.Need-run-at-requires
 run-at-requires c κs = search needs
 
 returns : tie.Need-returns
-returns c = rw (c .run-at .ensures) (omega (arith, c .before .before .before .flush .ensures))
+returns c = rw (c .run-at .ensures) (omega arith)
 
 pub flushed-spec : {M : Type 1} → statement M
 flushed-spec = tie.close (tie.spec flush-requires run-at-requires returns)

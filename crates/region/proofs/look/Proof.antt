@@ -14,7 +14,7 @@ enum-known-step : tie.Need-enum-known-step
 enum-known-step c = search needs
 
 add-run-at : tie.Need-add-run-at
-add-run-at c = omega (arith, c .before .before .before .before .before .before .before .before .before .before .before .before .pre .0)
+add-run-at c = search needs
 
 run-at-requires : tie.Need-run-at-requires
 run-at-requires c κs = search needs
@@ -35,32 +35,23 @@ refusal-requires : tie.Need-refusal-requires
 refusal-requires c κs = search needs
 
 add-run-at-2 : tie.Need-add-run-at-2
-add-run-at-2 c = omega (arith, c .before .before .before .before .before .before .before .before .before .before .before .before .before .before .before .before .pre .0)
+add-run-at-2 c = search needs
 
 run-at-requires-3 : tie.Need-run-at-requires-3
 run-at-requires-3 c κs = search needs
 
 returns : tie.Need-returns
-returns c =
-    let pre = c .before .before .before .before .before .before .before .before .before .before .before .before .before .pre in
-    rw (c .run-at .ensures) ((omega arith, omega (arith, pre .1), omega (arith, looks-few (c .before .before .before .step .given .0 .0))), pre .2)
-
-same-length : tie.Need-same-length
-same-length c = search needs
+returns c = rw (c .run-at .ensures) (omega arith, omega (arith, looks-few (c .before .before .before .step .given .0 .0)))
 
 returns-2 : tie.Need-returns-2
 returns-2 c =
-    let call = c .before .before .before .before .before .before .before .before .before in
-    let start = call .before .before .before .before .before .before .before in
-    let told = c .before .before .before .before .before .before .step2 .given .1 in
-    let fewer = subst (LinesEnd (start .args .r .stream)) told (call .word .ensures .1 .1 .1 .1 .1) in
-    rw (c .run-at2 .ensures) ((omega arith, c .before .before .before .line .ensures .0, omega (arith, fewer)), c .before .before .before .line .ensures .1)
-
-same-length-2 : tie.Need-same-length-2
-same-length-2 c = search needs
+    let call = c .before .before .before .before .before .before .before in
+    let told = c .before .before .before .before .step2 .given .1 in
+    let fewer = subst (LinesEnd (call .before .before .before .before .before .before .args .r .stream)) told (call .word .ensures .1 .1 .1 .1 .1) in
+    rw (c .run-at2 .ensures) (omega arith, omega (arith, fewer))
 
 returns-3 : tie.Need-returns-3
-returns-3 c = rw (c .run-at3 .ensures) ((omega arith, c .before .before .before .before .refusal .ensures .0, omega arith), c .before .before .before .before .refusal .ensures .1)
+returns-3 c = rw (c .run-at3 .ensures) (omega arith, omega arith)
 
 pub look-spec : {M : Type 1} → statement M
 look-spec =
@@ -78,7 +69,5 @@ look-spec =
     add-run-at-2
     run-at-requires-3
     returns
-    same-length
     returns-2
-    same-length-2
     returns-3)

@@ -1,13 +1,12 @@
--- `run` ends: it counts its blocks down. Between blocks at most three bytes are kept, and nothing waits to be written.
+-- `run` ends: it counts its blocks down. Between blocks at most three bytes are kept.
 use Prim.Native.Nat.{_≤_}
 use borrow.Author.Needs.{needs}
-use mathlib.Core.Path.{_≡_}
 use native.Mathlib.Omega.{arith}
 use Rattle.region.proofs.run.Statement.{statement}
 use Rattle.region.proofs.run.Tie as tie
 
 abbrev Inv-loop : tie.InvT-loop
-Inv-loop input₀ lines₀ pile₀ full₀ narrow₀ cells₀ r₀ turns₀ input lines pile full narrow cells r turns = (r .at ≤ 3) × (r .output .used ≡ 0)
+Inv-loop input₀ lines₀ pile₀ full₀ narrow₀ cells₀ r₀ turns₀ input lines pile full narrow cells r turns = r .at ≤ 3
 
 abbrev μ-loop : tie.MeasureT-loop
 μ-loop input₀ lines₀ pile₀ full₀ narrow₀ cells₀ r₀ turns₀ input lines pile full narrow cells r turns = turns
@@ -16,12 +15,10 @@ start-requires : tie.Need-start-requires Inv-loop μ-loop
 start-requires c κs = search needs
 
 loop-holds : tie.Need-loop-holds Inv-loop μ-loop
-loop-holds c = (omega (arith, c .start .ensures .0), c .start .ensures .1)
+loop-holds c = omega (arith, c .start .ensures)
 
 next-block-requires : tie.Need-next-block-requires Inv-loop μ-loop
-next-block-requires c κs =
-    let inv = c .before .before .before .before .before .before .before .loop .inv in
-    (inv .0, inv .1, search needs, search needs)
+next-block-requires c κs = c .before .before .before .before .before .before .before .loop .inv
 
 returns : tie.Need-returns Inv-loop μ-loop
 returns c = tt
@@ -33,7 +30,7 @@ loop-less : tie.Need-loop-less Inv-loop μ-loop
 loop-less c = search needs
 
 loop-again : tie.Need-loop-again Inv-loop μ-loop
-loop-again c = (c .before .next-block .ensures .0 .0, c .before .next-block .ensures .0 .1)
+loop-again c = c .before .next-block .ensures
 
 returns-2 : tie.Need-returns-2 Inv-loop μ-loop
 returns-2 c = tt

@@ -2,14 +2,12 @@
 use Prim.Native.Nat.{_+_, _-_, _≤_}
 use Rattle.region_stream.specs.Stream.{start}
 use borrow.Author.Needs.{needs}
-use lib.ListN.{length, length-set}
-use mathlib.Core.Path.{_≡_}
 use native.Mathlib.Omega.{arith}
 use Rattle.region.proofs.output.append.Statement.{statement}
 use Rattle.region.proofs.output.append.Tie as tie
 
 abbrev Inv-loop : tie.InvT-loop
-Inv-loop o text start lines₀ at₀ used₀ lines at used = (at ≤ 105) × (used + 105 ≤ 65536 + at) × (length lines ≡ 65536)
+Inv-loop o text start lines₀ at₀ used₀ lines at used = (at ≤ 105) × (used + 105 ≤ 65536 + at)
 
 abbrev μ-loop : tie.MeasureT-loop
 μ-loop o text start lines₀ at₀ used₀ lines at used = 105 - at
@@ -20,8 +18,8 @@ loop-holds c = omega arith
 element-copy-out-lines : tie.Need-element-copy-out-lines Inv-loop μ-loop
 element-copy-out-lines c = search needs
 
-slice-write-lines : tie.Need-slice-write-lines Inv-loop μ-loop
-slice-write-lines c = search needs
+element-write-lines : tie.Need-element-write-lines Inv-loop μ-loop
+element-write-lines c = search needs
 
 add-used : tie.Need-add-used Inv-loop μ-loop
 add-used c = search needs
@@ -33,13 +31,10 @@ loop-less : tie.Need-loop-less Inv-loop μ-loop
 loop-less c = search needs
 
 loop-again : tie.Need-loop-again Inv-loop μ-loop
-loop-again c = (omega arith, omega arith, simp length-set (omega arith))
-
-same-length : tie.Need-same-length Inv-loop μ-loop
-same-length c = search needs
+loop-again c = omega arith
 
 returns : tie.Need-returns Inv-loop μ-loop
-returns c = (omega arith, omega arith)
+returns c = tt
 
 pub append-spec : {M : Type 1} → statement M
 append-spec =
@@ -49,10 +44,9 @@ append-spec =
     μ-loop
     loop-holds
     element-copy-out-lines
-    slice-write-lines
+    element-write-lines
     add-used
     add-at
     loop-less
     loop-again
-    same-length
     returns)
