@@ -14,6 +14,10 @@ gained kernel s m off held j x =
     let w = times m (weight kernel s (off + j)) in
     cond (ltb j held) (add binary64 x w) w
 
+-- the same in two halves: the held cells' rule is `gained`; from cell n on each becomes new, and the others stay
+unfoldable pub renewed : List Float → ActivityProfileState → ℕ → ℕ → ℕ → ℕ → Float → Float
+renewed kernel s m off n j x = cond (ltb j n) x (times m (weight kernel s (off + j)))
+
 -- the window in the cells, the kernel's entry at its front, and how many of its cells are held
 abbrev pub lo : BandPassActivityProfile → ActivityProfileState → ℕ
 lo p s = lowest p s - firstLocus p s

@@ -12,10 +12,10 @@ ghost use mathlib.Core.Path.{_≡_};
 ghost use Prim.Native.Nat.{_+_, _-_, _≤_, _<_};
 ghost use lib.Dec.{ltb};
 ghost use lib.ListN.{length};
-ghost use Rattle.lists.specs.Each.{each};
+ghost use Rattle.lists.specs.Each.{each, upTo};
 ghost use Rattle.activity_profile.specs.Verdict.{granted};
 ghost use Rattle.activity_profile.specs.Add.{at, superStates, times, weight, firstLocus, lowest, highest, needed, brokenAdd, otherContig, offContig, noActivity, notNext, addVerdict, addedProfile, addAnswerOf, addAnswerBy, addCellsBy, addAnswer, addCells};
-ghost use Rattle.activity_profile.specs.Window.{gained, lo, hi, off, held};
+ghost use Rattle.activity_profile.specs.Window.{gained, renewed, lo, hi, off, held};
 
 impl BandPassActivityProfile {
     // Adds the next locus to the profile, and what it spreads to the lent cells. The kernel is the one that the profile was made with, 2F + 1
@@ -231,14 +231,46 @@ fn spread(
     requires { ⌜ off + length (now window) ≤ length (now kernel) ⌝ }
     ensures { λ _. ⌜ now (window .exit) ≡ each (gained (now (kernel .entry)) s m off held) (now (window .entry)) ⌝ }
 {
+    let n = lesser(held as u64, window.len() as u64) as usize;
+    add_to_held(window, kernel, s, m, off, held, n);
+    write_new(window, kernel, s, m, off, n);
+}
+
+// The first n cells, all of them held, receive by one addition.
+fn add_to_held(
+    window: &mut [f64],
+    kernel: &[f64],
+    s: ActivityProfileState,
+    m: u64,
+    off: usize,
+    held: usize,
+    n: usize,
+)
+    requires { ⌜ (off + length (now window) ≤ length (now kernel)) × (n ≤ length (now window)) × (n ≤ held) ⌝ }
+    ensures { λ _. ⌜ now (window .exit) ≡ upTo (gained (now (kernel .entry)) s m off held) n (now (window .entry)) ⌝ }
+{
     let mut i = 0;
+    while i < n {
+        window[i] = window[i] + times_of(m, weight_of(kernel, s, off + i));
+        i += 1;
+    }
+}
+
+// The cells from n on become what they receive.
+fn write_new(
+    window: &mut [f64],
+    kernel: &[f64],
+    s: ActivityProfileState,
+    m: u64,
+    off: usize,
+    n: usize,
+)
+    requires { ⌜ (off + length (now window) ≤ length (now kernel)) × (n ≤ length (now window)) ⌝ }
+    ensures { λ _. ⌜ now (window .exit) ≡ each (renewed (now (kernel .entry)) s m off n) (now (window .entry)) ⌝ }
+{
+    let mut i = n;
     while i < window.len() {
-        let w = times_of(m, weight_of(kernel, s, off + i));
-        if i < held {
-            window[i] = window[i] + w;
-        } else {
-            window[i] = w;
-        }
+        window[i] = times_of(m, weight_of(kernel, s, off + i));
         i += 1;
     }
 }

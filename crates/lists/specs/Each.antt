@@ -111,3 +111,29 @@ module _ {A : Type 0} where
   unfolding tabulate
   length-tabulate f zero = refl
   length-tabulate f (suc n) = ap suc (length-tabulate (λ k. f (suc k)) n)
+
+  pub getD-tabulate : (f : ℕ → A) (n k : ℕ) (d : A) → k < n → getD (tabulate f n) k d ≡ f k
+  unfolding tabulate
+  getD-tabulate f zero k d h = absurd (not-suc-le-zero h)
+  getD-tabulate f (suc n) zero d h = refl
+  getD-tabulate f (suc n) (suc k) d h = getD-tabulate (λ j. f (suc j)) n k d (le-of-suc-le-suc h)
+
+  -- a rule that leaves the first n elements as they are
+  pub upTo-kept : (f : ℕ → A → A) (n : ℕ) (l : List A) → ((k : ℕ) (x : A) → k < n → f k x ≡ x) → upTo f n l ≡ l
+  unfolding upTo
+  upTo-kept f zero l h = refl
+  upTo-kept f (suc n) [] h = refl
+  upTo-kept f (suc n) (x ∷ l) h = rw (h 0 x (suc-le-suc zero-le)) (ap (λ (t : List A). x ∷ t) (upTo-kept (λ k. f (suc k)) n l (λ k y q. h (suc k) y (suc-le-suc q))))
+
+  -- the first n elements by f, and then the others by a rule that leaves those and does as f from there on
+  pub each-after : (f g : ℕ → A → A) (n : ℕ) (l : List A) → ((k : ℕ) (x : A) → k < n → g k x ≡ x) → ((k : ℕ) (x : A) → n ≤ k → k < length l → g k x ≡ f k x)
+      → each g (upTo f n l) ≡ each f l
+  unfolding each upTo
+  each-after f g zero [] h j = refl
+  each-after f g zero (x ∷ l) h j =
+      rw (j 0 x zero-le (suc-le-suc zero-le))
+      (ap (λ (t : List A). f 0 x ∷ t) (each-after (λ k. f (suc k)) (λ k. g (suc k)) zero l (λ k y q. absurd (not-suc-le-zero q)) (λ k y q r. j (suc k) y zero-le (suc-le-suc r))))
+  each-after f g (suc n) [] h j = refl
+  each-after f g (suc n) (x ∷ l) h j =
+      rw (h 0 (f 0 x) (suc-le-suc zero-le))
+      (ap (λ (t : List A). f 0 x ∷ t) (each-after (λ k. f (suc k)) (λ k. g (suc k)) n l (λ k y q. h (suc k) y (suc-le-suc q)) (λ k y q r. j (suc k) y (suc-le-suc q) (suc-le-suc r))))

@@ -1,5 +1,6 @@
 pub mod Loops
 pub mod While
 pub mod Each
+pub mod Folds
 pub mod Window
 pub mod Tests
