@@ -25,7 +25,7 @@ use Rattle.activity_profile.specs.declared.ActivityProfileState.{ActivityProfil
 use Rattle.activity_profile.specs.declared.ActivityEvidence.the-variants.{Plain}
 use Rattle.activity_profile.specs.Add.{noActivity}
 use Rattle.activity_scoring.specs.Mean.{meanOf}
-use Rattle.activity_scoring.specs.Score.{inRange, maxDepth, allObservations, evidenceOf, activityOf, state, stateOf, scoreOf}
+use Rattle.activity_scoring.specs.Score.{inRange, maxDepth, allObservations, evidenceOf, activityOf, state, stateWith, stateOf, scoreWith, scoreOf}
 use Rattle.activity_scoring.proofs.Counts.{ploidy-at-most}
 
 -- what an answer tells of the tests before it
@@ -78,7 +78,7 @@ activity-unit p words s e =
     (le (posterior (s .«snp_heterozygosity») (s .«heterozygosity_standard_deviation») (plRoundTrip gl)) oneF) (u .0) (u .1)
 
 state-unit : (contig : ℕ) (p : GenomePosition) (words : List ℕ) (s : HaplotypeCallerActivityScoringParams) → inRange p s ≡ true → isProbability (stateOf contig p words s .«active_prob») ≡ true
-unfolding stateOf
+unfolding stateWith
 state-unit contig p words s e = go (eqb (length words) 0)
   where
     go : (b : Bool) → isProbability (cond b (state contig p (record { probability = zeroF; original = zeroF }) Plain) (state contig p (activityOf words s) (evidenceOf (meanOf s words))) .«active_prob») ≡ true
@@ -87,7 +87,7 @@ state-unit contig p words s e = go (eqb (length words) 0)
 
 pub score-in-unit : (contig : ℕ) (p : GenomePosition) (words : List ℕ) (s : HaplotypeCallerActivityScoringParams) (r : ActivityProfileState)
     → scoreOf contig p words s ≡ answered r → isProbability (r .«active_prob») ≡ true
-unfolding scoreOf
+unfolding scoreWith
 score-in-unit contig p words s r e =
     let t = told (not (inRange p s)) (ltb maxDepth (length words)) (not (allObservations words)) (stateOf contig p words s) r e in
     subst (λ (x : ActivityProfileState). isProbability (x .«active_prob») ≡ true) (t .1) (state-unit contig p words s (not-false (inRange p s) (t .0)))

@@ -1,2 +1,3 @@
 pub mod Mean
 pub mod Score
+pub mod Tables

@@ -16,7 +16,7 @@ use Rattle.genotype_likelihoods.specs.Settings.{settingsInRange}
 use Rattle.genotype_likelihoods.specs.Observation.{isObservation}
 use Rattle.genotype_likelihoods.specs.Likelihoods.{likelihoods}
 use Rattle.genotype_posterior.specs.Phred.{plRoundTrip}
-use Rattle.genotype_posterior.specs.Posterior.{posterior, posteriorWritten}
+use Rattle.genotype_posterior.specs.Posterior.{posterior}
 use Rattle.math_utils.specs.Sums.{maxElementIndex}
 use Rattle.activity_profile.specs.declared.ActivityProfileState.{ActivityProfileState}
 use Rattle.activity_profile.specs.declared.ActivityEvidence.{ActivityEvidence}
@@ -56,10 +56,6 @@ fromRounded s gl = record {
   original = sub binary64 (getD gl (maxElementIndex gl) nan) (getD gl 0 nan);
 }
 
--- what the posterior leaves in the likelihoods
-abbrev pub writtenBy : HaplotypeCallerActivityScoringParams → List Float → List Float
-writtenBy s gl = posteriorWritten (s .«snp_heterozygosity») (s .«heterozygosity_standard_deviation») gl
-
 -- the rounded likelihoods of ploidy + 1 genotypes
 abbrev pub roundedOf : List ℕ → HaplotypeCallerActivityScoringParams → List Float
 roundedOf words s = plRoundTrip (likelihoods s (s .«sample_ploidy» .0 + 1) words)
@@ -76,11 +72,14 @@ state contig p a e = record {
   evidence = e;
 }
 
--- "An empty pile gives probability 0.0, original 0.0, plain"
-unfoldable pub stateOf : ℕ → GenomePosition → List ℕ → HaplotypeCallerActivityScoringParams → ActivityProfileState
-stateOf contig p words s =
+-- "An empty pile gives probability 0.0, original 0.0, plain"; another has its activity
+unfoldable pub stateWith : Activity → ℕ → GenomePosition → List ℕ → HaplotypeCallerActivityScoringParams → ActivityProfileState
+stateWith a contig p words s =
     cond (eqb (length words) 0) (state contig p (record { probability = zeroF; original = zeroF }) Plain)
-    (state contig p (activityOf words s) (evidenceOf (meanOf s words)))
+    (state contig p a (evidenceOf (meanOf s words)))
+
+abbrev pub stateOf : ℕ → GenomePosition → List ℕ → HaplotypeCallerActivityScoringParams → ActivityProfileState
+stateOf contig p words s = stateWith (activityOf words s) contig p words s
 
 -- ---- the answer
 
@@ -89,10 +88,13 @@ abbrev pub scoredOf : Scored → Outcome ActivityProfileState
 scoredOf (Score s) = answered s
 scoredOf (Refused r) = refused (numberOf r)
 
--- "scoring 1, 4, 3"
-unfoldable pub scoreOf : ℕ → GenomePosition → List ℕ → HaplotypeCallerActivityScoringParams → Outcome ActivityProfileState
-scoreOf contig p words s =
+-- "scoring 1, 4, 3", or the state
+unfoldable pub scoreWith : ActivityProfileState → GenomePosition → List ℕ → HaplotypeCallerActivityScoringParams → Outcome ActivityProfileState
+scoreWith x p words s =
     cond (not (inRange p s)) (refused 1)
     (cond (ltb maxDepth (length words)) (refused 4)
     (cond (not (allObservations words)) (refused 3)
-    (answered (stateOf contig p words s))))
+    (answered x)))
+
+abbrev pub scoreOf : ℕ → GenomePosition → List ℕ → HaplotypeCallerActivityScoringParams → Outcome ActivityProfileState
+scoreOf contig p words s = scoreWith (stateOf contig p words s) p words s

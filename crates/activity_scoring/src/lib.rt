@@ -6,6 +6,7 @@ mod score;
 use activity_profile::ActivityProfileState;
 use genome::Refusal;
 pub use mean::hq_soft_clip_running_mean_rcm_path;
+pub use score::haplotype_caller_activity_profile_state_by_tables;
 pub use score::haplotype_caller_activity_profile_state_single_sample;
 
 // What scoring answers.

@@ -3,8 +3,10 @@ use crate::RunningMean;
 use genotype_likelihoods::HaplotypeCallerActivityScoringParams;
 use genotype_likelihoods::PileupObservation;
 ghost use mathlib.Core.Path.{_≡_};
+ghost use mathlib.Core.Bool.{false};
 ghost use Prim.Native.Nat.{_<_};
-ghost use Rattle.activity_scoring.specs.Mean.{withCount, withWord, meanOf};
+ghost use Rattle.lists.specs.Loops.{foldl};
+ghost use Rattle.activity_scoring.specs.Mean.{nextToClip, orNextToClip, withCount, withWord, meanOf};
 
 // Over the alternate observations next to a soft clip that are not skipped, in their order; 0.0 where there is none.
 pub fn hq_soft_clip_running_mean_rcm_path(
@@ -13,6 +15,9 @@ pub fn hq_soft_clip_running_mean_rcm_path(
 ) -> f64
     ensures { λ r. ⌜ r ≡ meanOf params (now (pile .entry)) ⌝ }
 {
+    if !has_clips(pile) {
+        return 0.0;
+    }
     let mut r = RunningMean {
         count: 0,
         mean: 0.0,
@@ -23,6 +28,26 @@ pub fn hq_soft_clip_running_mean_rcm_path(
         i += 1;
     }
     r.mean
+}
+
+// Whether any observation is alternate and next to a soft clip, skipped or not. Few piles have one, and only those need a mean.
+fn has_clips(pile: &[u32]) -> bool
+    ensures { λ r. ⌜ r ≡ foldl orNextToClip false (now (pile .entry)) ⌝ }
+{
+    let mut found = false;
+    let mut i = 0;
+    while i < pile.len() {
+        found = found | is_next_to_clip(pile[i]);
+        i += 1;
+    }
+    found
+}
+
+fn is_next_to_clip(w: u32) -> bool
+    ensures { λ r. ⌜ r ≡ nextToClip w ⌝ }
+{
+    let obs = PileupObservation::from_word(w);
+    obs.is_alt & obs.is_next_to_soft_clip
 }
 
 fn with_word(r: RunningMean, w: u32, params: HaplotypeCallerActivityScoringParams) -> RunningMean

@@ -12,7 +12,8 @@ ghost use mathlib.Core.Path.{_≡_};
 ghost use mathlib.Core.Bool.{true};
 ghost use Prim.Native.Nat.{_+_, _≤_};
 ghost use lib.ListN.{length};
-ghost use Rattle.activity_scoring.specs.Score.{inRange, allObservations, evidenceOf, writtenBy, fromRounded, roundedOf, activityOf, stateOf, scoredOf, scoreOf};
+ghost use Rattle.activity_scoring.specs.Score.{inRange, allObservations, evidenceOf, scoredOf, scoreOf};
+ghost use Rattle.activity_scoring.specs.Tables.{fromRoundedBy, writtenBy, roundedBy, activityBy, stateBy, scoreBy};
 
 // The longest pile: document 01's refusal 4.
 pub const MAX_DEPTH: usize = 16384;
@@ -29,6 +30,23 @@ pub fn haplotype_caller_activity_profile_state_single_sample(
 ) -> Scored
     ensures { λ r. ⌜ scoredOf r ≡ scoreOf contig pos (now (pile .entry)) params ⌝ }
 {
+    let array = [0.0; 1];
+    let none = &array[..0];
+    haplotype_caller_activity_profile_state_by_tables(contig, pos, pile, params, none, none)
+}
+
+// The same score from tables that are filled once for the settings: by `contribution_table::fill_contribution_table`, and by
+// `genotype_posterior::fill_log10_priors` over ploidy + 1 numbers. A table that is too short, and priors of another number, are not looked at.
+pub fn haplotype_caller_activity_profile_state_by_tables(
+    contig: u32,
+    pos: GenomePosition,
+    pile: &[u32],
+    params: HaplotypeCallerActivityScoringParams,
+    table: &[f64],
+    priors: &[f64],
+) -> Scored
+    ensures { λ r. ⌜ scoredOf r ≡ scoreBy (now (table .entry)) (now (priors .entry)) contig pos (now (pile .entry)) params ⌝ }
+{
     if !is_in_range(pos, params) {
         return Scored::Refused(Refusal::Setting);
     }
@@ -38,7 +56,7 @@ pub fn haplotype_caller_activity_profile_state_single_sample(
     if !are_observations(pile) {
         return Scored::Refused(Refusal::Word);
     }
-    Scored::Score(state_of(contig, pos, pile, params))
+    Scored::Score(state_of(contig, pos, pile, params, table, priors))
 }
 
 fn is_in_range(pos: GenomePosition, params: HaplotypeCallerActivityScoringParams) -> bool
@@ -65,9 +83,11 @@ fn state_of(
     pos: GenomePosition,
     pile: &[u32],
     params: HaplotypeCallerActivityScoringParams,
+    table: &[f64],
+    priors: &[f64],
 ) -> ActivityProfileState
     requires { ⌜ params .«sample_ploidy» .0 ≤ 100 ⌝ }
-    ensures { λ r. ⌜ r ≡ stateOf contig pos (now (pile .entry)) params ⌝ }
+    ensures { λ r. ⌜ r ≡ stateBy (now (table .entry)) (now (priors .entry)) contig pos (now (pile .entry)) params ⌝ }
 {
     if pile.len() == 0 {
         return ActivityProfileState {
@@ -79,7 +99,7 @@ fn state_of(
         };
     }
     let evidence = evidence_of(hq_soft_clip_running_mean_rcm_path(pile, params));
-    let a = activity_of(pile, params);
+    let a = activity_of(pile, params, table, priors);
     ActivityProfileState {
         contig,
         pos,
@@ -99,43 +119,93 @@ fn evidence_of(mean: f64) -> ActivityEvidence
     ActivityEvidence::Plain
 }
 
-// Likelihoods in an array with room for the largest ploidy.
-fn activity_of(pile: &[u32], params: HaplotypeCallerActivityScoringParams) -> Activity
+// Likelihoods in an array with room for them; a small one where it serves, since an array is cleared first.
+fn activity_of(
+    pile: &[u32],
+    params: HaplotypeCallerActivityScoringParams,
+    table: &[f64],
+    priors: &[f64],
+) -> Activity
     requires { ⌜ params .«sample_ploidy» .0 ≤ 100 ⌝ }
-    ensures { λ r. ⌜ r ≡ activityOf (now (pile .entry)) params ⌝ }
+    ensures { λ r. ⌜ r ≡ activityBy (now (table .entry)) (now (priors .entry)) (now (pile .entry)) params ⌝ }
+{
+    let p = params.sample_ploidy;
+    if p.0 <= 3 {
+        return activity_of_few(pile, params, table, priors);
+    }
+    activity_of_many(pile, params, table, priors)
+}
+
+fn activity_of_few(
+    pile: &[u32],
+    params: HaplotypeCallerActivityScoringParams,
+    table: &[f64],
+    priors: &[f64],
+) -> Activity
+    requires { ⌜ params .«sample_ploidy» .0 ≤ 3 ⌝ }
+    ensures { λ r. ⌜ r ≡ activityBy (now (table .entry)) (now (priors .entry)) (now (pile .entry)) params ⌝ }
+{
+    let mut gl = [0.0; 4];
+    let p = params.sample_ploidy;
+    let n = p.0 as usize + 1;
+    activity_in(&mut gl[..n], pile, params, table, priors)
+}
+
+// The largest ploidy is 100.
+fn activity_of_many(
+    pile: &[u32],
+    params: HaplotypeCallerActivityScoringParams,
+    table: &[f64],
+    priors: &[f64],
+) -> Activity
+    requires { ⌜ params .«sample_ploidy» .0 ≤ 100 ⌝ }
+    ensures { λ r. ⌜ r ≡ activityBy (now (table .entry)) (now (priors .entry)) (now (pile .entry)) params ⌝ }
 {
     let mut gl = [0.0; 101];
     let p = params.sample_ploidy;
     let n = p.0 as usize + 1;
-    activity_in(&mut gl[..n], pile, params)
+    activity_in(&mut gl[..n], pile, params, table, priors)
 }
 
 fn activity_in(
     gl: &mut [f64],
     pile: &[u32],
     params: HaplotypeCallerActivityScoringParams,
+    table: &[f64],
+    priors: &[f64],
 ) -> Activity
     requires { ⌜ length (now gl) ≡ params .«sample_ploidy» .0 + 1 ⌝ }
-    ensures { λ r. ⌜ r ≡ activityOf (now (pile .entry)) params ⌝ }
-    ensures { λ _. ⌜ now (gl .exit) ≡ writtenBy params (roundedOf (now (pile .entry)) params) ⌝ }
+    ensures { λ r. ⌜ r ≡ activityBy (now (table .entry)) (now (priors .entry)) (now (pile .entry)) params ⌝ }
+    ensures { λ _. ⌜ now (gl .exit) ≡ writtenBy (now (priors .entry)) params (roundedBy (now (table .entry)) (now (pile .entry)) params) ⌝ }
 {
-    genotype_likelihoods::calc_ref_vs_any_log10_genotype_likelihoods(gl, pile, params);
+    contribution_table::calc_ref_vs_any_log10_genotype_likelihoods_by_table(
+        gl,
+        pile,
+        params,
+        table,
+    );
     genotype_posterior::genotype_log10_likelihoods_after_java_genotype_pl_roundtrip(gl);
-    from_rounded(gl, params)
+    from_rounded(gl, params, priors)
 }
 
-fn from_rounded(gl: &mut [f64], params: HaplotypeCallerActivityScoringParams) -> Activity
+fn from_rounded(
+    gl: &mut [f64],
+    params: HaplotypeCallerActivityScoringParams,
+    priors: &[f64],
+) -> Activity
     requires { ⌜ 1 ≤ length (now gl) ⌝ }
-    ensures { λ r. ⌜ r ≡ fromRounded params (now (gl .entry)) ⌝ }
-    ensures { λ _. ⌜ now (gl .exit) ≡ writtenBy params (now (gl .entry)) ⌝ }
+    ensures { λ r. ⌜ r ≡ fromRoundedBy (now (priors .entry)) params (now (gl .entry)) ⌝ }
+    ensures { λ _. ⌜ now (gl .exit) ≡ writtenBy (now (priors .entry)) params (now (gl .entry)) ⌝ }
 {
     let m = math_utils::max_element_index(&gl[..]);
     let original = gl[m] - gl[0];
-    let probability = genotype_posterior::calculate_single_sample_biallelic_non_ref_posterior(
-        gl,
-        params.snp_heterozygosity,
-        params.heterozygosity_standard_deviation,
-    );
+    let probability =
+        genotype_posterior::calculate_single_sample_biallelic_non_ref_posterior_by_priors(
+            gl,
+            params.snp_heterozygosity,
+            params.heterozygosity_standard_deviation,
+            priors,
+        );
     Activity {
         probability,
         original,

@@ -9,6 +9,8 @@ pub use contribution::error_prob;
 pub use contribution::genotype_contribution;
 use genome::Ploidy;
 pub use likelihoods::calc_ref_vs_any_log10_genotype_likelihoods;
+pub use likelihoods::subtract;
+pub use likelihoods::weight_of;
 pub use observation::effective_qual;
 pub use observation::skip_observation;
 

@@ -69,7 +69,8 @@ fn take_word(gl: &mut [f64], n: u64, w: u32, params: HaplotypeCallerActivityScor
     n + 1
 }
 
-fn weight_of(is_alt: bool, params: HaplotypeCallerActivityScoringParams) -> f64
+// The weight of an observation: the alternate has one of its own.
+pub fn weight_of(is_alt: bool, params: HaplotypeCallerActivityScoringParams) -> f64
     ensures { λ r. ⌜ r ≡ cond «is_alt» (params .«active_region_alt_multiplier») oneF ⌝ }
 {
     if is_alt {
@@ -91,7 +92,8 @@ fn gain(gl: &mut [f64], qual: u8, is_alt: bool, weight: f64, ploidy: Ploidy)
     }
 }
 
-fn subtract(gl: &mut [f64], denom: f64)
+// Takes the same off every genotype.
+pub fn subtract(gl: &mut [f64], denom: f64)
     ensures { λ _. ⌜ now (gl .exit) ≡ each (less denom) (now (gl .entry)) ⌝ }
 {
     let mut i = 0;

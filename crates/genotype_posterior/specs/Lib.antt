@@ -2,3 +2,4 @@ pub mod Phred
 pub mod Posterior
 pub mod PriorRange
 pub mod Probability
+pub mod Priors

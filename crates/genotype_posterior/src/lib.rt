@@ -5,3 +5,5 @@ mod posterior;
 
 pub use phred::genotype_log10_likelihoods_after_java_genotype_pl_roundtrip;
 pub use posterior::calculate_single_sample_biallelic_non_ref_posterior;
+pub use posterior::calculate_single_sample_biallelic_non_ref_posterior_by_priors;
+pub use posterior::fill_log10_priors;

@@ -7,18 +7,25 @@ use output::Output;
 use region_stream::CELLS;
 use region_stream::KERNEL;
 use region_stream::PILE;
+use region_stream::PRIORS;
 use region_stream::RegionStream;
 use region_stream::Step;
+use region_stream::TABLE;
 ghost use mathlib.Core.Path.{_≡_};
-ghost use Prim.Native.Nat.{_+_, _*_, _≤_, _<_};
+ghost use Prim.Native.Nat.{_+_, _*_, _/_, _≤_, _<_};
 ghost use lib.ListN.{length};
 ghost use Rattle.region_stream.specs.Stream.{looksLeft};
-ghost use Rattle.region.specs.Blocks.{BlockUpTo, wordAt};
+ghost use Rattle.lists.specs.Each.{each};
+ghost use Rattle.region.specs.Blocks.{BlockUpTo, wordAt, readWord};
 
 // The bytes of a block of input.
 const BLOCK: usize = 65536;
 
-// The stream, the byte of the block at which its next word starts, and what is printed; the program is over where it has `stopped`.
+// The words of a block.
+const WORDS: usize = 16384;
+
+// The stream, the place in the block of its next word, and what is printed; the program is over where it has `stopped`. Between blocks `at` is the number of
+// bytes that are kept of a word that is not whole yet.
 struct State {
     stream: RegionStream,
     at: usize,
@@ -38,15 +45,22 @@ fn main() {
     let mut full = [0.0f64; KERNEL];
     let mut narrow = [0.0f64; KERNEL];
     let mut cells = [0.0f64; CELLS];
+    let mut table = [0.0f64; TABLE];
+    let mut priors = [0.0f64; PRIORS];
+    let mut words = [0u32; WORDS];
     let mut input = io::large_buffer();
     let mut lines = io::large_buffer();
+    region_stream::fill_tables(&mut table, &mut priors);
     run(
         &mut input,
+        &mut words,
         &mut lines,
         &mut pile,
         &mut full,
         &mut narrow,
         &mut cells,
+        &table,
+        &priors,
     );
 }
 
@@ -54,16 +68,30 @@ fn main() {
 // that an input does: so this one counts its blocks down, from a number that no run uses up.
 fn run(
     input: &mut [u8; BLOCK],
+    words: &mut [u32; WORDS],
     lines: &mut [u8; BLOCK],
     pile: &mut [u32; PILE],
     full: &mut [f64; KERNEL],
     narrow: &mut [f64; KERNEL],
     cells: &mut [f64; CELLS],
+    table: &[f64; TABLE],
+    priors: &[f64; PRIORS],
 ) {
     let mut r = start();
     let mut turns = u64::MAX;
     while turns > 0 {
-        r = next_block(r, input, lines, pile, full, narrow, cells);
+        r = next_block(
+            r,
+            input,
+            words,
+            lines,
+            pile,
+            full,
+            narrow,
+            cells,
+            table,
+            priors,
+        );
         if r.stopped {
             return;
         }
@@ -88,11 +116,14 @@ fn start() -> State
 fn next_block(
     r: State,
     input: &mut [u8; BLOCK],
+    words: &mut [u32; WORDS],
     lines: &mut [u8; BLOCK],
     pile: &mut [u32; PILE],
     full: &mut [f64; KERNEL],
     narrow: &mut [f64; KERNEL],
     cells: &mut [f64; CELLS],
+    table: &[f64; TABLE],
+    priors: &[f64; PRIORS],
 ) -> State
     requires { ⌜ r .at ≤ 3 ⌝ }
     ensures { λ s. ⌜ s .at ≤ 3 ⌝ }
@@ -100,10 +131,22 @@ fn next_block(
     let block = read_block(input, r.at);
     match block {
         Block::Bytes(n) => {
-            let fed = feed(r, n, input, lines, pile, full, narrow, cells);
+            let count = read_words(input, n, words);
+            let fed = feed(
+                r,
+                words,
+                count,
+                lines,
+                pile,
+                full,
+                narrow,
+                cells,
+                table,
+                priors,
+            );
             flushed(fed, keep_rest(input, n), lines)
         }
-        Block::End => end(r, lines, pile, full, narrow, cells),
+        Block::End => end(r, lines, pile, full, narrow, cells, table, priors),
         Block::Failed => {
             os::fail(b"standard input");
             stopped(r)
@@ -128,31 +171,105 @@ fn read_block(input: &mut [u8], kept: usize) -> Block
     Block::Bytes(kept + n)
 }
 
-// Looks at the whole words of the first n bytes, until the program is over.
+// Reads the whole words of the first n bytes, and answers how many they are.
+fn read_words(input: &[u8], n: usize, words: &mut [u32]) -> usize
+    requires { ⌜ (n ≤ length (now input)) × (n ≤ 65536) × (length (now words) ≡ 16384) ⌝ }
+    ensures { λ r. ⌜ (r ≡ n / 4) × (r ≤ length (now (words .exit))) ⌝ }
+    ensures { λ _. ⌜ now (words .exit) ≡ each (readWord (now (input .entry)) (n / 4)) (now (words .entry)) ⌝ }
+{
+    let count = n / 4;
+    let mut i = 0;
+    while i < count {
+        words[i] = word_at(input, 4 * i);
+        i += 1;
+    }
+    count
+}
+
+// Looks at the first `count` words, until the program is over.
 fn feed(
     r: State,
-    n: usize,
-    input: &[u8],
+    words: &[u32],
+    count: usize,
     lines: &mut [u8; BLOCK],
     pile: &mut [u32; PILE],
     full: &mut [f64; KERNEL],
     narrow: &mut [f64; KERNEL],
     cells: &mut [f64; CELLS],
+    table: &[f64; TABLE],
+    priors: &[f64; PRIORS],
 ) -> State
-    requires { ⌜ (n ≤ length (now input)) × (n ≤ 65536) ⌝ }
+    requires { ⌜ (count ≤ length (now words)) × (count ≤ 16384) ⌝ }
 {
     let mut s = from_start(r);
-    while s.at + 4 <= n {
+    while s.at < count {
         if s.stopped {
             return s;
         }
-        let w = word_at(input, s.at);
-        s = look(s, w, lines, pile, full, narrow, cells);
+        s = advance(
+            s,
+            words,
+            count,
+            lines,
+            pile,
+            full,
+            narrow,
+            cells,
+            table,
+            priors,
+        );
     }
     s
 }
 
-// The run at the block's first byte.
+// Takes the observations that stand next, and looks at the word behind them.
+fn advance(
+    r: State,
+    words: &[u32],
+    count: usize,
+    lines: &mut [u8; BLOCK],
+    pile: &mut [u32; PILE],
+    full: &mut [f64; KERNEL],
+    narrow: &mut [f64; KERNEL],
+    cells: &mut [f64; CELLS],
+    table: &[f64; TABLE],
+    priors: &[f64; PRIORS],
+) -> State
+    requires { ⌜ (r .at < count) × (count ≤ length (now words)) × (count ≤ 16384) ⌝ }
+    ensures { λ s. ⌜ (s .at ≤ count) × (looksLeft (s .stream) + r .at * 4400 < looksLeft (r .stream) + s .at * 4400) ⌝ }
+{
+    let from = r.at;
+    let s = observe(r, &words[from..count], pile);
+    let at = s.at;
+    if at < count {
+        return look(
+            s,
+            words[at],
+            lines,
+            pile,
+            full,
+            narrow,
+            cells,
+            table,
+            priors,
+        );
+    }
+    s
+}
+
+// The run behind the observations at the front of the words.
+fn observe(r: State, words: &[u32], pile: &mut [u32; PILE]) -> State
+    requires { ⌜ r .at + length (now words) ≤ 16384 ⌝ }
+    ensures { λ s. ⌜ (r .at ≤ s .at) × (s .at ≤ r .at + length (now (words .entry))) × (looksLeft (s .stream) ≡ looksLeft (r .stream)) ⌝ }
+{
+    let stream = r.stream;
+    let output = r.output;
+    let observed = stream.observations(words, pile);
+    let next = observed.stream;
+    run_at(next, r.at + observed.taken, output, r.stopped)
+}
+
+// The run at the block's first word.
 fn from_start(r: State) -> State
     ensures { λ s. ⌜ s .at ≡ 0 ⌝ }
 {
@@ -188,22 +305,24 @@ fn look(
     full: &mut [f64; KERNEL],
     narrow: &mut [f64; KERNEL],
     cells: &mut [f64; CELLS],
+    table: &[f64; TABLE],
+    priors: &[f64; PRIORS],
 ) -> State
-    requires { ⌜ r .at ≤ 65532 ⌝ }
-    ensures { λ s. ⌜ (s .at ≤ r .at + 4) × (looksLeft (s .stream) + r .at * 1100 < looksLeft (r .stream) + s .at * 1100) ⌝ }
+    requires { ⌜ r .at ≤ 16383 ⌝ }
+    ensures { λ s. ⌜ (s .at ≤ r .at + 1) × (looksLeft (s .stream) + r .at * 4400 < looksLeft (r .stream) + s .at * 4400) ⌝ }
 {
     let stream = r.stream;
-    let step = stream.word(w, pile, full, narrow, cells);
+    let step = stream.word(w, pile, full, narrow, cells, table, priors);
     let output = r.output;
     match step {
-        Step::Go(next) => run_at(next, r.at + 4, output, output.failed),
+        Step::Go(next) => run_at(next, r.at + 1, output, output.failed),
         Step::Line(region, next) => {
             let printed = output.line(region, lines);
             run_at(next, r.at, printed, printed.failed)
         }
         Step::Refused(why, index) => {
             let printed = output.refusal(why, index, lines);
-            run_at(stream, r.at + 4, printed, true)
+            run_at(stream, r.at + 1, printed, true)
         }
     }
 }
@@ -253,12 +372,14 @@ fn end(
     full: &mut [f64; KERNEL],
     narrow: &mut [f64; KERNEL],
     cells: &mut [f64; CELLS],
+    table: &[f64; TABLE],
+    priors: &[f64; PRIORS],
 ) -> State
     ensures { λ s. ⌜ s .at ≤ 3 ⌝ }
 {
     let stream = r.stream;
     let output = r.output;
-    let step = last_look(stream, r.at != 0, pile, full, narrow, cells);
+    let step = last_look(stream, r.at != 0, pile, full, narrow, cells, table, priors);
     let printed = last_line(step, output, lines);
     let written = printed.flush(lines);
     run_at(stream, 0, written, true)
@@ -272,11 +393,13 @@ fn last_look(
     full: &mut [f64; KERNEL],
     narrow: &mut [f64; KERNEL],
     cells: &mut [f64; CELLS],
+    table: &[f64; TABLE],
+    priors: &[f64; PRIORS],
 ) -> Step {
     if remainder {
-        return stream.remainder(pile, full, narrow, cells);
+        return stream.remainder(pile, full, narrow, cells, table, priors);
     }
-    stream.end(pile, full, narrow, cells)
+    stream.end(pile, full, narrow, cells, table, priors)
 }
 
 // The line of the last look.

@@ -10,11 +10,11 @@ use lib.ListN.{length, length-append}
 use Rattle.lists.specs.Loops.{foldl}
 use Rattle.genome.specs.Refusals.{refused}
 use Rattle.genotype_likelihoods.specs.Settings.{defaults}
-use Rattle.activity_scoring.specs.Score.{inRange, maxDepth, scoreOf}
+use Rattle.activity_scoring.specs.Score.{inRange, maxDepth, scoreWith, scoreOf}
 use Rattle.region_stream.specs.Program.{pileScore, deepened}
 
 too-deep : (p : ℕ) (words : List ℕ) → maxDepth < length words → pileScore p words ≡ cond (not (inRange (record { 0 = p }) defaults)) (refused 1) (refused 4)
-unfolding scoreOf
+unfolding scoreWith
 too-deep p words h = rw (lt-ltb maxDepth (length words) h)
 
 kept-score : (p : ℕ) (words more : List ℕ) → pileScore p (foldl deepened words more) ≡ pileScore p (words ++ more)

@@ -15,7 +15,7 @@ use Rattle.activity_profile.specs.Verdict.{Verdict, refusal, granted}
 use Rattle.activity_profile.specs.Add.{addVerdict, addedCell, addCellsBy, addCells}
 use Rattle.activity_profile.specs.Pop.{regionPop, Turn, empty, held, ready, popVerdict, turn, kept, popSize, rest, movedCell, popAnswerBy, popCellsBy, popAnswer, popCells}
 use Rattle.activity_profile.proofs.Cuts.{cut-is}
-use Rattle.region_stream.specs.Program.{Reading, Place, atSettings, atLoci, inPile, goesOn, holding, pileScore, scoreAdded, scoreCells, endedWith, ended, endPile}
+use Rattle.region_stream.specs.Program.{Reading, Place, atSettings, atLoci, inPile, goesOn, holding, Scoring, scoreAdded, scoreCells, endedWith, endedBy, endPileBy}
 
 -- ---- one pop
 
@@ -73,9 +73,9 @@ pub record Ends (s t : Reading) : Type 0 where
   pub none : NoPile (t .place)
   pub kept-as-was : NoPile (s .place) → t ≡ s
 
-pub ends : (s t : Reading) → endPile s ≡ goesOn t → Ends s t
-unfolding ended endedWith
-ends s t = go (s .place) refl
+pub ends : (scoring : Scoring) (s t : Reading) → endPileBy scoring s ≡ goesOn t → Ends s t
+unfolding endedBy endedWith
+ends scoring s t = go (s .place) refl
   where
     added : (p i : ℕ) (words : List ℕ) (cells : List Float) → length cells ≡ length (s .cells) → (o : Outcome BandPassActivityProfile) → (NoPile (s .place) → t ≡ s) → endedWith i s cells o ≡ goesOn t → Ends s t
     added p i words cells l (refused n) k e = absurd (let z : _≡_ {A = ℕ} 0 1 = cc in omega arith)
@@ -90,9 +90,9 @@ ends s t = go (s .place) refl
         not-in atSettings p i words settings f = let z : _≡_ {A = ℕ} 0 1 = cc in absurd (omega arith)
         not-in atLoci p i words loci f = let z : _≡_ {A = ℕ} 0 1 = cc in absurd (omega arith)
 
-    go : (x : Place) → s .place ≡ x → ended s x ≡ goesOn t → Ends s t
+    go : (x : Place) → s .place ≡ x → endedBy scoring s x ≡ goesOn t → Ends s t
     go atSettings f e = let h : s ≡ t = cc in record { same = ap (λ (x : Reading). length (x .cells)) (sym h); none = subst (λ (x : Reading). NoPile (x .place)) h (subst NoPile (sym f) settings); kept-as-was = λ n. sym h }
     go atLoci f e = let h : s ≡ t = cc in record { same = ap (λ (x : Reading). length (x .cells)) (sym h); none = subst (λ (x : Reading). NoPile (x .place)) h (subst NoPile (sym f) loci); kept-as-was = λ n. sym h }
     go (inPile p i words) f e =
-        let score = pileScore p words in
+        let score = scoring p words in
         added p i words (scoreCells (s .profile) (s .cells) (s .kernel) score) (length-score (s .profile) (s .cells) (s .kernel) score) (scoreAdded (s .profile) (s .cells) (s .kernel) score) (none-here p i words f) e

@@ -5,3 +5,4 @@ pub mod Printing
 pub mod Looks
 pub mod Lines
 pub mod Depth
+pub mod Runs

@@ -11,7 +11,7 @@ use Rattle.region_stream.specs.declared.Phase.{Phase}
 use Rattle.region_stream.specs.declared.Phase.the-variants.{Settings, Loci, Pile}
 use Rattle.region_stream.specs.declared.Step.{Step}
 use Rattle.region_stream.specs.declared.Step.the-variants.{Go, Line, Refused}
-use Rattle.region_stream.specs.Program.{Place, atSettings, atLoci, inPile, line, look}
+use Rattle.region_stream.specs.Program.{Place, atSettings, atLoci, inPile, line, Scoring, lookBy}
 use Rattle.region_stream.specs.Stream.{placeOf, seen, answerOf, looksIn, looksLeft, LinesEnd}
 use Rattle.region_stream.proofs.Ends.{NoPile, settings, loci}
 use Rattle.region_stream.proofs.Printing.{line-fewer}
@@ -28,10 +28,10 @@ no-such : (x : Place) (p i : ℕ) (words : List ℕ) → NoPile x → x ≡ inPi
 no-such atSettings p i words settings e = let z : _≡_ {A = ℕ} 0 1 = cc in absurd (omega arith)
 no-such atLoci p i words loci e = let z : _≡_ {A = ℕ} 0 1 = cc in absurd (omega arith)
 
-pub looks-fewer : (w : ℕ) (s t : RegionStream) (pile pile′ : List ℕ) (full narrow cells full′ narrow′ cells′ : List Float) (r : ActivityProfileRegion) → length cells ≡ 4096
-    → look w (seen s pile full narrow cells) ≡ line r (seen t pile′ full′ narrow′ cells′) → looksLeft t < looksLeft s
-looks-fewer w s t pile pile′ full narrow cells full′ narrow′ cells′ r long e =
-    let f = line-fewer w (seen s pile full narrow cells) (seen t pile′ full′ narrow′ cells′) r e in
+pub looks-fewer : (scoring : Scoring) (w : ℕ) (s t : RegionStream) (pile pile′ : List ℕ) (full narrow cells full′ narrow′ cells′ : List Float) (r : ActivityProfileRegion) → length cells ≡ 4096
+    → lookBy scoring w (seen s pile full narrow cells) ≡ line r (seen t pile′ full′ narrow′ cells′) → looksLeft t < looksLeft s
+looks-fewer scoring w s t pile pile′ full narrow cells full′ narrow′ cells′ r long e =
+    let f = line-fewer scoring w (seen s pile full narrow cells) (seen t pile′ full′ narrow′ cells′) r e in
     go (s .phase) (t .phase) (f .none) (omega (arith, f .under-cells, long)) (λ n. omega (arith, (f .under-count n) .0, (f .under-count n) .1, long))
   where
     go : (x y : Phase) → NoPile (placeOf y pile′) → t .profile .count < 4096 → (NoPile (placeOf x pile) → (t .profile .count < s .profile .count) × (s .profile .count ≤ 4096)) → looksIn y (t .profile .count) < looksIn x (s .profile .count)
@@ -43,8 +43,8 @@ looks-fewer w s t pile pile′ full narrow cells full′ narrow′ cells′ r lo
     go (Pile p i d) Settings none few less = omega arith
     go (Pile p i d) Loci none few less = omega arith
 
-pub lines-end : (w : ℕ) (s : RegionStream) (r : Step) (pile pile′ : List ℕ) (full narrow cells full′ narrow′ cells′ : List Float) → length cells ≡ 4096
-    → answerOf r pile′ full′ narrow′ cells′ ≡ look w (seen s pile full narrow cells) → LinesEnd s r
-lines-end w s (Go t) pile pile′ full narrow cells full′ narrow′ cells′ long e = tt
-lines-end w s (Line r t) pile pile′ full narrow cells full′ narrow′ cells′ long e = looks-fewer w s t pile pile′ full narrow cells full′ narrow′ cells′ r long (sym e)
-lines-end w s (Refused y i) pile pile′ full narrow cells full′ narrow′ cells′ long e = tt
+pub lines-end : (scoring : Scoring) (w : ℕ) (s : RegionStream) (r : Step) (pile pile′ : List ℕ) (full narrow cells full′ narrow′ cells′ : List Float) → length cells ≡ 4096
+    → answerOf r pile′ full′ narrow′ cells′ ≡ lookBy scoring w (seen s pile full narrow cells) → LinesEnd s r
+lines-end scoring w s (Go t) pile pile′ full narrow cells full′ narrow′ cells′ long e = tt
+lines-end scoring w s (Line r t) pile pile′ full narrow cells full′ narrow′ cells′ long e = looks-fewer scoring w s t pile pile′ full narrow cells full′ narrow′ cells′ r long (sym e)
+lines-end scoring w s (Refused y i) pile pile′ full narrow cells full′ narrow′ cells′ long e = tt

@@ -18,20 +18,20 @@ use Rattle.activity_scoring.specs.Score.{maxDepth}
 use Rattle.region_stream.specs.declared.RegionStream.{RegionStream}
 use Rattle.region_stream.specs.declared.Phase.the-variants.{Settings, Pile}
 use Rattle.region_stream.specs.Settings.{paramsOf}
-use Rattle.region_stream.specs.Program.{Reading, atSettings, atLoci, inPile, goesOn, stopsAt, goes, stops, next, bufferSize, bitsOf, pileScore, scoreAdded, scoreCells, endedWith, ended, endPile, madeWith, openedAt, opened, deepened, observedAt, observed, poppedFor, popAt, popMade, popUnmade}
+use Rattle.region_stream.specs.Program.{Reading, atSettings, atLoci, inPile, goesOn, stopsAt, goes, stops, next, bufferSize, bitsOf, Scoring, scoreAdded, scoreCells, endedWith, endPileBy, madeWith, openedAt, opened, deepened, observedAt, observed, poppedFor, popAt, popMade, popUnmade, endedBy}
 use Rattle.region_stream.specs.Stream.{kernelIn, seen, closedWith, startedWith, pileAt, pileObserved}
 use Rattle.region_stream.proofs.Kept.{filter-scored}
 
 -- ---- the end of a pile
 
-module _ (s : RegionStream) (pile : List ℕ) (full narrow cells : List Float) (l i d : ℕ) (e : s .phase ≡ Pile l i d) where
-  pub ends-added : (q : BandPassActivityProfile) → scoreAdded (s .profile) cells (kernelIn s full narrow) (pileScore l (take d pile)) ≡ answered q
-      → endPile (seen s pile full narrow cells) ≡ goesOn (seen (closedWith s q) pile full narrow (scoreCells (s .profile) cells (kernelIn s full narrow) (pileScore l (take d pile))))
-  unfolding ended endedWith
-  ends-added q a = rw (e, a, filter-scored (s .profile) cells (kernelIn s full narrow) (pileScore l (take d pile)) q a)
+module _ (scoring : Scoring) (s : RegionStream) (pile : List ℕ) (full narrow cells : List Float) (l i d : ℕ) (e : s .phase ≡ Pile l i d) where
+  pub ends-added : (q : BandPassActivityProfile) → scoreAdded (s .profile) cells (kernelIn s full narrow) (scoring l (take d pile)) ≡ answered q
+      → endPileBy scoring (seen s pile full narrow cells) ≡ goesOn (seen (closedWith s q) pile full narrow (scoreCells (s .profile) cells (kernelIn s full narrow) (scoring l (take d pile))))
+  unfolding endedBy endedWith
+  ends-added q a = rw (e, a, filter-scored (s .profile) cells (kernelIn s full narrow) (scoring l (take d pile)) q a)
 
-  pub ends-refused : (n : ℕ) → scoreAdded (s .profile) cells (kernelIn s full narrow) (pileScore l (take d pile)) ≡ refused n → endPile (seen s pile full narrow cells) ≡ stopsAt n i
-  unfolding ended endedWith
+  pub ends-refused : (n : ℕ) → scoreAdded (s .profile) cells (kernelIn s full narrow) (scoring l (take d pile)) ≡ refused n → endPileBy scoring (seen s pile full narrow cells) ≡ stopsAt n i
+  unfolding endedBy endedWith
   ends-refused n a = rw (e, a)
 
 -- ---- a locus word

@@ -14,7 +14,7 @@ use Rattle.activity_profile.specs.Making.{making}
 use Rattle.activity_profile.specs.Pop.{PopAnswer, refusedPop, emptyPop, heldPop, regionPop, popAnswer, popCells}
 use Rattle.region_stream.specs.declared.StreamSettings.{StreamSettings}
 use Rattle.region_stream.specs.Settings.{paramsOf, fieldOf, valueOf, withField}
-use Rattle.region_stream.specs.Program.{bufferSize, Reading, Place, atSettings, atLoci, inPile, Ending, goesOn, stopsAt, goes, line, stops, holding, kindOf, endPile, andThen, madeWith, openedAt, opened, observedAt, observed, poppedBy, popMade, popAt, poppedFor, popped, setBy, setAt, look}
+use Rattle.region_stream.specs.Program.{bufferSize, Reading, Place, atSettings, atLoci, inPile, Ending, goesOn, stopsAt, goes, line, stops, holding, kindOf, Scoring, endPileBy, andThen, madeWith, openedAt, opened, observedAt, observed, poppedBy, popMade, popAt, poppedFor, popped, setBy, setAt, lookBy}
 use Rattle.region_stream.proofs.Ends.{fewer, length-pop, NoPile, Ends, ends}
 
 -- ---- what a line tells
@@ -112,22 +112,22 @@ pub record LineOf (s t : Reading) : Type 0 where
   pub ended-so : Ends s middle
   pub popping : Popping middle t
 
-pub look-line : (w : ℕ) (s t : Reading) (r : ActivityProfileRegion) → look w s ≡ line r t → LineOf s t
-unfolding look
-look-line w s t r = go (eqb (kindOf w) 0) (eqb (kindOf w) 1) (eqb (kindOf w) 2)
+pub look-line : (scoring : Scoring) (w : ℕ) (s t : Reading) (r : ActivityProfileRegion) → lookBy scoring w s ≡ line r t → LineOf s t
+unfolding lookBy
+look-line scoring w s t r = go (eqb (kindOf w) 0) (eqb (kindOf w) 1) (eqb (kindOf w) 2)
   where
     opens : (x : Ending) → andThen x (opened w) ≡ line r t → LineOf s t
     opens (goesOn u) e = absurd (opened-none w u t r e)
     opens (stopsAt n i) e = absurd (let z : _≡_ {A = ℕ} 0 1 = cc in omega arith)
 
-    pops : (x : Ending) → endPile s ≡ x → andThen x (popped w) ≡ line r t → LineOf s t
-    pops (goesOn u) f e = record { middle = u; ended-so = ends s u f; popping = popped-line _ u t r e }
+    pops : (x : Ending) → endPileBy scoring s ≡ x → andThen x (popped w) ≡ line r t → LineOf s t
+    pops (goesOn u) f e = record { middle = u; ended-so = ends scoring s u f; popping = popped-line _ u t r e }
     pops (stopsAt n i) f e = absurd (let z : _≡_ {A = ℕ} 0 1 = cc in omega arith)
 
-    go : (a b c : Bool) → cond a (andThen (endPile s) (opened w)) (cond b (observed w s) (cond c (andThen (endPile s) (popped w)) (setAt w s (s .place)))) ≡ line r t → LineOf s t
-    go true b c e = opens (endPile s) e
+    go : (a b c : Bool) → cond a (andThen (endPileBy scoring s) (opened w)) (cond b (observed w s) (cond c (andThen (endPileBy scoring s) (popped w)) (setAt w s (s .place)))) ≡ line r t → LineOf s t
+    go true b c e = opens (endPileBy scoring s) e
     go false true c e = absurd (observed-none w s t r e)
-    go false false true e = pops (endPile s) refl e
+    go false false true e = pops (endPileBy scoring s) refl e
     go false false false e = absurd (set-none w s t r e)
 
 pub no-pile : (s t : Reading) → LineOf s t → NoPile (t .place)
@@ -147,9 +147,9 @@ pub record Fewer (s t : Reading) : Type 0 where
   pub under-cells : t .profile .count < length (s .cells)
   pub under-count : NoPile (s .place) → (t .profile .count < s .profile .count) × (s .profile .count ≤ length (s .cells))
 
-pub line-fewer : (w : ℕ) (s t : Reading) (r : ActivityProfileRegion) → look w s ≡ line r t → Fewer s t
-line-fewer w s t r e =
-    let l = look-line w s t r e in
+pub line-fewer : (scoring : Scoring) (w : ℕ) (s t : Reading) (r : ActivityProfileRegion) → lookBy scoring w s ≡ line r t → Fewer s t
+line-fewer scoring w s t r e =
+    let l = look-line scoring w s t r e in
     record {
       none = no-pile s t l;
       under-cells = (under s t l) .0;

@@ -86,8 +86,12 @@ unfoldable pub scoreCells : BandPassActivityProfile → List Float → List Floa
 scoreCells p cells kernel (refused n) = cells
 scoreCells p cells kernel (answered x) = addCells p cells kernel x
 
+-- how the pile of a position is scored
+abbrev pub Scoring : Type 0
+Scoring = ℕ → List ℕ → Outcome ActivityProfileState
+
 -- there is one contig, number 0, and "scoring has the Rust's defaults"
-abbrev pub pileScore : ℕ → List ℕ → Outcome ActivityProfileState
+abbrev pub pileScore : Scoring
 pileScore p words = scoreOf 0 (record { 0 = p }) words scoringDefaults
 
 -- "its refusals name its locus word", which is i
@@ -95,16 +99,20 @@ unfoldable pub endedWith : ℕ → Reading → List Float → Outcome BandPassAc
 endedWith i s cells (refused n) = stopsAt n i
 endedWith i s cells (answered p) = goesOn (holding s p cells atLoci (s .index))
 
--- "A pile is scored and added when it ends"
-unfoldable pub ended : Reading → Place → Ending
-ended s atSettings = goesOn s
-ended s atLoci = goesOn s
-ended s (inPile p i words) =
-    let score = pileScore p words in
+-- "A pile is scored and added when it ends". Here and where a word is looked at the scoring is left open: the program's is `pileScore`, and the code scores
+-- by tables (specs/Tables)
+unfoldable pub endedBy : Scoring → Reading → Place → Ending
+endedBy scoring s atSettings = goesOn s
+endedBy scoring s atLoci = goesOn s
+endedBy scoring s (inPile p i words) =
+    let score = scoring p words in
     endedWith i s (scoreCells (s .profile) (s .cells) (s .kernel) score) (scoreAdded (s .profile) (s .cells) (s .kernel) score)
 
+abbrev pub endPileBy : Scoring → Reading → Ending
+endPileBy scoring s = endedBy scoring s (s .place)
+
 abbrev pub endPile : Reading → Ending
-endPile s = ended s (s .place)
+endPile s = endPileBy pileScore s
 
 -- what ".. before the next kind 0 or 2 word, a byte remainder or the end of input is looked at" leaves
 abbrev pub andThen : Ending → (Reading → Answer) → Answer
@@ -212,22 +220,25 @@ abbrev pub set : ℕ → Reading → Answer
 set w s = setAt w s (s .place)
 
 -- one look at a word
-unfoldable pub look : ℕ → Reading → Answer
-look w s =
-    cond (eqb (kindOf w) 0) (andThen (endPile s) (opened w))
+unfoldable pub lookBy : Scoring → ℕ → Reading → Answer
+lookBy scoring w s =
+    cond (eqb (kindOf w) 0) (andThen (endPileBy scoring s) (opened w))
     (cond (eqb (kindOf w) 1) (observed w s)
-    (cond (eqb (kindOf w) 2) (andThen (endPile s) (popped w))
+    (cond (eqb (kindOf w) 2) (andThen (endPileBy scoring s) (popped w))
     (set w s)))
+
+abbrev pub look : ℕ → Reading → Answer
+look w s = lookBy pileScore w s
 
 -- "a remainder counts as a word", and is refused 3
 abbrev pub remaining : Reading → Answer
 remaining s = stops 3 (s .index)
 
-abbrev pub lookAtRemainder : Reading → Answer
-lookAtRemainder s = andThen (endPile s) remaining
+abbrev pub lookAtRemainderBy : Scoring → Reading → Answer
+lookAtRemainderBy scoring s = andThen (endPileBy scoring s) remaining
 
-abbrev pub lookAtEnd : Reading → Answer
-lookAtEnd s = andThen (endPile s) goes
+abbrev pub lookAtEndBy : Scoring → Reading → Answer
+lookAtEndBy scoring s = andThen (endPileBy scoring s) goes
 
 -- ---- the whole program
 
@@ -249,7 +260,7 @@ after r rest = printed (r ∷ rest .lines) (rest .close)
 
 -- how the input ends: with a remainder of bytes, or without
 abbrev pub atEnd : Bool → Reading → Answer
-atEnd remainder s = cond remainder (lookAtRemainder s) (lookAtEnd s)
+atEnd remainder s = cond remainder (lookAtRemainderBy pileScore s) (lookAtEndBy pileScore s)
 
 abbrev pub closed : Answer → Printed
 closed (goes s) = printed [] finished

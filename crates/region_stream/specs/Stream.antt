@@ -22,7 +22,7 @@ use Rattle.region_stream.specs.declared.Ended.the-variants.{Go as EndedG
 use Rattle.region_stream.specs.declared.Step.{Step}
 use Rattle.region_stream.specs.declared.Step.the-variants.{Go, Line, Refused}
 use Rattle.region_stream.specs.Settings.{defaults, paramsOf}
-use Rattle.region_stream.specs.Program.{Place, atSettings, atLoci, inPile, Reading, Ending, goesOn, stopsAt, Answer, goes, line, stops, next, kindOf, endPile, opened, popped}
+use Rattle.region_stream.specs.Program.{Place, atSettings, atLoci, inPile, Reading, Ending, goesOn, stopsAt, Answer, goes, line, stops, next, kindOf, Scoring, endPileBy, opened, popped}
 
 -- ---- the state
 
@@ -139,11 +139,11 @@ abbrev pub cellsThen : Ending → (Reading → Answer) → List Float → List F
 cellsThen (goesOn s) look cells = cellsAnswered (look s) (s .cells)
 cellsThen (stopsAt n i) look cells = cells
 
-unfoldable pub cellsAfter : ℕ → Reading → List Float → List Float
-cellsAfter w s cells =
-    cond (eqb (kindOf w) 0) (cellsThen (endPile s) (opened w) cells)
+unfoldable pub cellsAfter : Scoring → ℕ → Reading → List Float → List Float
+cellsAfter scoring w s cells =
+    cond (eqb (kindOf w) 0) (cellsThen (endPileBy scoring s) (opened w) cells)
     (cond (eqb (kindOf w) 1) cells
-    (cond (eqb (kindOf w) 2) (cellsThen (endPile s) (popped w) cells)
+    (cond (eqb (kindOf w) 2) (cellsThen (endPileBy scoring s) (popped w) cells)
     cells))
 
 -- The buffers are written at the first locus alone: n and m are the other buffer's length.
@@ -165,11 +165,11 @@ abbrev pub narrowThen : Ending → ℕ → List Float → List Float
 narrowThen (goesOn s) n narrow = narrowOpened s (s .place) n narrow
 narrowThen (stopsAt k i) n narrow = narrow
 
-unfoldable pub fullAfter : ℕ → Reading → List Float → ℕ → List Float
-fullAfter w s full m = cond (eqb (kindOf w) 0) (fullThen (endPile s) full m) full
+unfoldable pub fullAfter : Scoring → ℕ → Reading → List Float → ℕ → List Float
+fullAfter scoring w s full m = cond (eqb (kindOf w) 0) (fullThen (endPileBy scoring s) full m) full
 
-unfoldable pub narrowAfter : ℕ → Reading → ℕ → List Float → List Float
-narrowAfter w s n narrow = cond (eqb (kindOf w) 0) (narrowThen (endPile s) n narrow) narrow
+unfoldable pub narrowAfter : Scoring → ℕ → Reading → ℕ → List Float → List Float
+narrowAfter scoring w s n narrow = cond (eqb (kindOf w) 0) (narrowThen (endPileBy scoring s) n narrow) narrow
 
 -- The pile takes an observation as its next word.
 abbrev pub pileObserved : Phase → ℕ → List ℕ → List ℕ

@@ -1,12 +1,15 @@
 // The region program, document 01's chapter of that name, but for reading and writing: one word in, one answer out. No public function has a `requires`.
 //
-// The stream's state goes in by value and comes back. The pile that is being read, the kernel's two buffers and the cells are lent.
+// The stream's state goes in by value and comes back. The pile that is being read, the kernel's two buffers, the cells and the tables that piles are scored by are
+// lent.
 mod look;
+mod observe;
 mod set;
 
 use activity_profile::ActivityProfileRegion;
 use activity_profile::BandPassActivityProfile;
 use genome::Refusal;
+pub use look::fill_tables;
 
 // "There are 4,096 cells."
 pub const CELLS: usize = 4096;
@@ -16,6 +19,11 @@ pub const KERNEL: usize = 1001;
 
 // One word more than the deepest pile: a pile that fills it is refused, whatever words would follow.
 pub const PILE: usize = 16385;
+
+// The tables that piles are scored by, for the settings of scoring that a stream has: contribution_table's, and the priors of 3 genotypes.
+pub const TABLE: usize = 2049;
+
+pub const PRIORS: usize = 3;
 
 // What kind 3 words set.
 pub struct StreamSettings {
@@ -73,4 +81,10 @@ pub enum Step {
     Go(RegionStream),
     Line(ActivityProfileRegion, RegionStream),
     Refused(Refusal, u64),
+}
+
+// What a run of observations leaves: the stream after them, and how many they are.
+pub struct Observed {
+    pub stream: RegionStream,
+    pub taken: usize,
 }

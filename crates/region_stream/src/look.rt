@@ -3,12 +3,14 @@ use crate::CELLS;
 use crate::Ended;
 use crate::KERNEL;
 use crate::PILE;
+use crate::PRIORS;
 use crate::Phase;
 use crate::PileAdded;
 use crate::RegionStream;
 use crate::Setting;
 use crate::Step;
 use crate::StreamSettings;
+use crate::TABLE;
 use activity_profile::Added;
 use activity_profile::BandPassActivityProfile;
 use activity_profile::Made;
@@ -23,8 +25,9 @@ ghost use lib.Ieee.{Float};
 ghost use Prim.Native.Nat.{ℕ};
 ghost use lib.ListN.{length, take};
 ghost use Rattle.activity_scoring.specs.Score.{scoredOf};
-ghost use Rattle.region_stream.specs.Program.{bufferSize, scoreAdded, scoreCells, pileScore, endPile, andThen, opened, observed, popMade, popUnmade, popped, look, remaining, lookAtRemainder, lookAtEnd, goesOn, goes, poppedFor};
+ghost use Rattle.region_stream.specs.Program.{bufferSize, scoreAdded, scoreCells, endPileBy, andThen, opened, observed, popMade, popUnmade, popped, lookBy, remaining, lookAtRemainderBy, lookAtEndBy, goesOn, goes, poppedFor};
 ghost use Rattle.region_stream.specs.Program.{set as setWord};
+ghost use Rattle.region_stream.specs.Tables.{tableScore, tableFilled, listFilled};
 ghost use Rattle.region_stream.specs.Stream.{seen, newStream, closedWith, startedWith, pileAt, advancedTo, settledWith, pileAddedOf, refusedScore, endingOf, answerOf, cellsEnded, cellsAnswered, cellsThen, cellsAfter, fullThen, narrowThen, fullAfter, narrowAfter, pileObserved, pileAfter, LinesEnd};
 
 // Bits 31-30 of a word are its kind.
@@ -32,6 +35,20 @@ const KIND: u32 = 0x4000_0000;
 
 // The one contig of a stream.
 const CONTIG: u32 = 0;
+
+// Fills the tables that piles are scored by. To be called once, before the first word.
+pub fn fill_tables(table: &mut [f64; TABLE], priors: &mut [f64; PRIORS])
+    ensures { λ _. ⌜ now (table .exit) ≡ tableFilled (now (table .entry)) ⌝ }
+    ensures { λ _. ⌜ now (priors .exit) ≡ listFilled (now (priors .entry)) ⌝ }
+{
+    let params = HaplotypeCallerActivityScoringParams::default();
+    contribution_table::fill_contribution_table(table, params);
+    genotype_posterior::fill_log10_priors(
+        priors,
+        params.snp_heterozygosity,
+        params.heterozygosity_standard_deviation,
+    );
+}
 
 impl RegionStream {
     // A stream before its first word.
@@ -55,7 +72,7 @@ impl RegionStream {
         }
     }
 
-    // One look at a word. After a line the same word is to be looked at again.
+    // One look at a word. After a line the same word is to be looked at again. The tables are those that `fill_tables` filled: with others the scores are others.
     pub fn word(
         self,
         w: u32,
@@ -63,15 +80,17 @@ impl RegionStream {
         full: &mut [f64; KERNEL],
         narrow: &mut [f64; KERNEL],
         cells: &mut [f64; CELLS],
+        table: &[f64; TABLE],
+        priors: &[f64; PRIORS],
     ) -> Step
-        ensures { λ r. ⌜ answerOf r (now (pile .exit)) (now (full .exit)) (now (narrow .exit)) (now (cells .exit)) ≡ look w (seen self (now (pile .entry)) (now (full .entry)) (now (narrow .entry)) (now (cells .entry))) ⌝ }
+        ensures { λ r. ⌜ answerOf r (now (pile .exit)) (now (full .exit)) (now (narrow .exit)) (now (cells .exit)) ≡ lookBy (tableScore (now (table .entry)) (now (priors .entry))) w (seen self (now (pile .entry)) (now (full .entry)) (now (narrow .entry)) (now (cells .entry))) ⌝ }
         ensures { λ _. ⌜ now (pile .exit) ≡ pileAfter w (self .phase) (now (pile .entry)) ⌝ }
-        ensures { λ _. ⌜ now (full .exit) ≡ fullAfter w (seen self (now (pile .entry)) (now (full .entry)) (now (narrow .entry)) (now (cells .entry))) (now (full .entry)) (length (now (narrow .entry))) ⌝ }
-        ensures { λ _. ⌜ now (narrow .exit) ≡ narrowAfter w (seen self (now (pile .entry)) (now (full .entry)) (now (narrow .entry)) (now (cells .entry))) (length (now (full .entry))) (now (narrow .entry)) ⌝ }
-        ensures { λ _. ⌜ now (cells .exit) ≡ cellsAfter w (seen self (now (pile .entry)) (now (full .entry)) (now (narrow .entry)) (now (cells .entry))) (now (cells .entry)) ⌝ }
+        ensures { λ _. ⌜ now (full .exit) ≡ fullAfter (tableScore (now (table .entry)) (now (priors .entry))) w (seen self (now (pile .entry)) (now (full .entry)) (now (narrow .entry)) (now (cells .entry))) (now (full .entry)) (length (now (narrow .entry))) ⌝ }
+        ensures { λ _. ⌜ now (narrow .exit) ≡ narrowAfter (tableScore (now (table .entry)) (now (priors .entry))) w (seen self (now (pile .entry)) (now (full .entry)) (now (narrow .entry)) (now (cells .entry))) (length (now (full .entry))) (now (narrow .entry)) ⌝ }
+        ensures { λ _. ⌜ now (cells .exit) ≡ cellsAfter (tableScore (now (table .entry)) (now (priors .entry))) w (seen self (now (pile .entry)) (now (full .entry)) (now (narrow .entry)) (now (cells .entry))) (now (cells .entry)) ⌝ }
         ensures { λ r. ⌜ LinesEnd self r ⌝ }
     {
-        look_at(self, w, pile, full, narrow, cells)
+        look_at(self, w, pile, full, narrow, cells, table, priors)
     }
 
     // The end of the input after a remainder of bytes that is no whole word.
@@ -81,11 +100,13 @@ impl RegionStream {
         full: &'a [f64; KERNEL],
         narrow: &'a [f64; KERNEL],
         cells: &mut [f64; CELLS],
+        table: &[f64; TABLE],
+        priors: &[f64; PRIORS],
     ) -> Step
-        ensures { λ r. ⌜ answerOf r (now (pile .entry)) (now (full .entry)) (now (narrow .entry)) (now (cells .exit)) ≡ lookAtRemainder (seen self (now (pile .entry)) (now (full .entry)) (now (narrow .entry)) (now (cells .entry))) ⌝ }
-        ensures { λ _. ⌜ now (cells .exit) ≡ cellsThen (endPile (seen self (now (pile .entry)) (now (full .entry)) (now (narrow .entry)) (now (cells .entry)))) remaining (now (cells .entry)) ⌝ }
+        ensures { λ r. ⌜ answerOf r (now (pile .entry)) (now (full .entry)) (now (narrow .entry)) (now (cells .exit)) ≡ lookAtRemainderBy (tableScore (now (table .entry)) (now (priors .entry))) (seen self (now (pile .entry)) (now (full .entry)) (now (narrow .entry)) (now (cells .entry))) ⌝ }
+        ensures { λ _. ⌜ now (cells .exit) ≡ cellsThen (endPileBy (tableScore (now (table .entry)) (now (priors .entry))) (seen self (now (pile .entry)) (now (full .entry)) (now (narrow .entry)) (now (cells .entry)))) remaining (now (cells .entry)) ⌝ }
     {
-        remainder_in(self, pile, full, narrow, cells)
+        remainder_in(self, pile, full, narrow, cells, table, priors)
     }
 
     // The end of the input.
@@ -95,11 +116,13 @@ impl RegionStream {
         full: &'a [f64; KERNEL],
         narrow: &'a [f64; KERNEL],
         cells: &mut [f64; CELLS],
+        table: &[f64; TABLE],
+        priors: &[f64; PRIORS],
     ) -> Step
-        ensures { λ r. ⌜ answerOf r (now (pile .entry)) (now (full .entry)) (now (narrow .entry)) (now (cells .exit)) ≡ lookAtEnd (seen self (now (pile .entry)) (now (full .entry)) (now (narrow .entry)) (now (cells .entry))) ⌝ }
-        ensures { λ _. ⌜ now (cells .exit) ≡ cellsThen (endPile (seen self (now (pile .entry)) (now (full .entry)) (now (narrow .entry)) (now (cells .entry)))) goes (now (cells .entry)) ⌝ }
+        ensures { λ r. ⌜ answerOf r (now (pile .entry)) (now (full .entry)) (now (narrow .entry)) (now (cells .exit)) ≡ lookAtEndBy (tableScore (now (table .entry)) (now (priors .entry))) (seen self (now (pile .entry)) (now (full .entry)) (now (narrow .entry)) (now (cells .entry))) ⌝ }
+        ensures { λ _. ⌜ now (cells .exit) ≡ cellsThen (endPileBy (tableScore (now (table .entry)) (now (priors .entry))) (seen self (now (pile .entry)) (now (full .entry)) (now (narrow .entry)) (now (cells .entry)))) goes (now (cells .entry)) ⌝ }
     {
-        end_in(self, pile, full, narrow, cells)
+        end_in(self, pile, full, narrow, cells, table, priors)
     }
 }
 
@@ -111,23 +134,34 @@ fn look_at(
     full: &mut [f64],
     narrow: &mut [f64],
     cells: &mut [f64],
+    table: &[f64],
+    priors: &[f64],
 ) -> Step
     requires { ⌜ (length (now pile) ≡ 16385) × (length (now full) ≡ bufferSize) × (length (now narrow) ≡ bufferSize) ⌝ }
-    ensures { λ r. ⌜ answerOf r (now (pile .exit)) (now (full .exit)) (now (narrow .exit)) (now (cells .exit)) ≡ look w (seen s (now (pile .entry)) (now (full .entry)) (now (narrow .entry)) (now (cells .entry))) ⌝ }
+    ensures { λ r. ⌜ answerOf r (now (pile .exit)) (now (full .exit)) (now (narrow .exit)) (now (cells .exit)) ≡ lookBy (tableScore (now (table .entry)) (now (priors .entry))) w (seen s (now (pile .entry)) (now (full .entry)) (now (narrow .entry)) (now (cells .entry))) ⌝ }
     ensures { λ _. ⌜ now (pile .exit) ≡ pileAfter w (s .phase) (now (pile .entry)) ⌝ }
-    ensures { λ _. ⌜ now (full .exit) ≡ fullAfter w (seen s (now (pile .entry)) (now (full .entry)) (now (narrow .entry)) (now (cells .entry))) (now (full .entry)) (length (now (narrow .entry))) ⌝ }
-    ensures { λ _. ⌜ now (narrow .exit) ≡ narrowAfter w (seen s (now (pile .entry)) (now (full .entry)) (now (narrow .entry)) (now (cells .entry))) (length (now (full .entry))) (now (narrow .entry)) ⌝ }
-    ensures { λ _. ⌜ now (cells .exit) ≡ cellsAfter w (seen s (now (pile .entry)) (now (full .entry)) (now (narrow .entry)) (now (cells .entry))) (now (cells .entry)) ⌝ }
+    ensures { λ _. ⌜ now (full .exit) ≡ fullAfter (tableScore (now (table .entry)) (now (priors .entry))) w (seen s (now (pile .entry)) (now (full .entry)) (now (narrow .entry)) (now (cells .entry))) (now (full .entry)) (length (now (narrow .entry))) ⌝ }
+    ensures { λ _. ⌜ now (narrow .exit) ≡ narrowAfter (tableScore (now (table .entry)) (now (priors .entry))) w (seen s (now (pile .entry)) (now (full .entry)) (now (narrow .entry)) (now (cells .entry))) (length (now (full .entry))) (now (narrow .entry)) ⌝ }
+    ensures { λ _. ⌜ now (cells .exit) ≡ cellsAfter (tableScore (now (table .entry)) (now (priors .entry))) w (seen s (now (pile .entry)) (now (full .entry)) (now (narrow .entry)) (now (cells .entry))) (now (cells .entry)) ⌝ }
 {
     let kind = w / KIND;
     if kind == 0 {
-        return locus_word(s, w, &pile[..], full, narrow, cells);
+        return locus_word(s, w, &pile[..], full, narrow, cells, table, priors);
     }
     if kind == 1 {
         return observation_word(s, w, pile);
     }
     if kind == 2 {
-        return pop_word(s, w, &pile[..], &full[..], &narrow[..], cells);
+        return pop_word(
+            s,
+            w,
+            &pile[..],
+            &full[..],
+            &narrow[..],
+            cells,
+            table,
+            priors,
+        );
     }
     setting_word(s, w)
 }
@@ -141,9 +175,11 @@ fn end_pile<'a>(
     full: &'a [f64],
     narrow: &'a [f64],
     cells: &mut [f64],
+    table: &[f64],
+    priors: &[f64],
 ) -> Ended
-    ensures { λ r. ⌜ endingOf r (now (pile .entry)) (now (full .entry)) (now (narrow .entry)) (now (cells .exit)) ≡ endPile (seen s (now (pile .entry)) (now (full .entry)) (now (narrow .entry)) (now (cells .entry))) ⌝ }
-    ensures { λ _. ⌜ now (cells .exit) ≡ cellsEnded (endPile (seen s (now (pile .entry)) (now (full .entry)) (now (narrow .entry)) (now (cells .entry)))) (now (cells .entry)) ⌝ }
+    ensures { λ r. ⌜ endingOf r (now (pile .entry)) (now (full .entry)) (now (narrow .entry)) (now (cells .exit)) ≡ endPileBy (tableScore (now (table .entry)) (now (priors .entry))) (seen s (now (pile .entry)) (now (full .entry)) (now (narrow .entry)) (now (cells .entry))) ⌝ }
+    ensures { λ _. ⌜ now (cells .exit) ≡ cellsEnded (endPileBy (tableScore (now (table .entry)) (now (priors .entry))) (seen s (now (pile .entry)) (now (full .entry)) (now (narrow .entry)) (now (cells .entry)))) (now (cells .entry)) ⌝ }
 {
     let phase = s.phase;
     match phase {
@@ -157,7 +193,7 @@ fn end_pile<'a>(
             let p = s.profile;
             let params = s.settings.params();
             let kernel = params.normalized_kernel(p.filter_size, full, narrow);
-            let added = add_pile(p, locus, front(pile, depth), kernel, cells);
+            let added = add_pile(p, locus, front(pile, depth), kernel, cells, table, priors);
             match added {
                 PileAdded::Profile(next) => Ended::Go(with_profile(s, next)),
                 PileAdded::Refused(why) => Ended::Refused(why, locus_index),
@@ -187,15 +223,19 @@ fn add_pile(
     words: &[u32],
     kernel: &[f64],
     cells: &mut [f64],
+    table: &[f64],
+    priors: &[f64],
 ) -> PileAdded
-    ensures { λ r. ⌜ pileAddedOf r ≡ scoreAdded p (now (cells .entry)) (now (kernel .entry)) (pileScore locus (now (words .entry))) ⌝ }
-    ensures { λ _. ⌜ now (cells .exit) ≡ scoreCells p (now (cells .entry)) (now (kernel .entry)) (pileScore locus (now (words .entry))) ⌝ }
+    ensures { λ r. ⌜ pileAddedOf r ≡ scoreAdded p (now (cells .entry)) (now (kernel .entry)) (tableScore (now (table .entry)) (now (priors .entry)) locus (now (words .entry))) ⌝ }
+    ensures { λ _. ⌜ now (cells .exit) ≡ scoreCells p (now (cells .entry)) (now (kernel .entry)) (tableScore (now (table .entry)) (now (priors .entry)) locus (now (words .entry))) ⌝ }
 {
-    let scored = activity_scoring::haplotype_caller_activity_profile_state_single_sample(
+    let scored = activity_scoring::haplotype_caller_activity_profile_state_by_tables(
         CONTIG,
         GenomePosition(locus),
         words,
         HaplotypeCallerActivityScoringParams::default(),
+        table,
+        priors,
     );
     let Scored::Score(state) = scored else {
         return refused_score(scored);
@@ -237,14 +277,16 @@ fn locus_word(
     full: &mut [f64],
     narrow: &mut [f64],
     cells: &mut [f64],
+    table: &[f64],
+    priors: &[f64],
 ) -> Step
     requires { ⌜ (length (now full) ≡ bufferSize) × (length (now narrow) ≡ bufferSize) ⌝ }
-    ensures { λ r. ⌜ answerOf r (now (pile .entry)) (now (full .exit)) (now (narrow .exit)) (now (cells .exit)) ≡ andThen (endPile (seen s (now (pile .entry)) (now (full .entry)) (now (narrow .entry)) (now (cells .entry)))) (opened w) ⌝ }
-    ensures { λ _. ⌜ now (full .exit) ≡ fullThen (endPile (seen s (now (pile .entry)) (now (full .entry)) (now (narrow .entry)) (now (cells .entry)))) (now (full .entry)) (length (now (narrow .entry))) ⌝ }
-    ensures { λ _. ⌜ now (narrow .exit) ≡ narrowThen (endPile (seen s (now (pile .entry)) (now (full .entry)) (now (narrow .entry)) (now (cells .entry)))) (length (now (full .entry))) (now (narrow .entry)) ⌝ }
-    ensures { λ _. ⌜ now (cells .exit) ≡ cellsThen (endPile (seen s (now (pile .entry)) (now (full .entry)) (now (narrow .entry)) (now (cells .entry)))) (opened w) (now (cells .entry)) ⌝ }
+    ensures { λ r. ⌜ answerOf r (now (pile .entry)) (now (full .exit)) (now (narrow .exit)) (now (cells .exit)) ≡ andThen (endPileBy (tableScore (now (table .entry)) (now (priors .entry))) (seen s (now (pile .entry)) (now (full .entry)) (now (narrow .entry)) (now (cells .entry)))) (opened w) ⌝ }
+    ensures { λ _. ⌜ now (full .exit) ≡ fullThen (endPileBy (tableScore (now (table .entry)) (now (priors .entry))) (seen s (now (pile .entry)) (now (full .entry)) (now (narrow .entry)) (now (cells .entry)))) (now (full .entry)) (length (now (narrow .entry))) ⌝ }
+    ensures { λ _. ⌜ now (narrow .exit) ≡ narrowThen (endPileBy (tableScore (now (table .entry)) (now (priors .entry))) (seen s (now (pile .entry)) (now (full .entry)) (now (narrow .entry)) (now (cells .entry)))) (length (now (full .entry))) (now (narrow .entry)) ⌝ }
+    ensures { λ _. ⌜ now (cells .exit) ≡ cellsThen (endPileBy (tableScore (now (table .entry)) (now (priors .entry))) (seen s (now (pile .entry)) (now (full .entry)) (now (narrow .entry)) (now (cells .entry)))) (opened w) (now (cells .entry)) ⌝ }
 {
-    let ended = end_pile(s, pile, &full[..], &narrow[..], cells);
+    let ended = end_pile(s, pile, &full[..], &narrow[..], cells, table, priors);
     match ended {
         Ended::Go(next) => open_pile(next, w, full, narrow),
         Ended::Refused(why, index) => Step::Refused(why, index),
@@ -345,11 +387,13 @@ fn pop_word<'a>(
     full: &'a [f64],
     narrow: &'a [f64],
     cells: &mut [f64],
+    table: &[f64],
+    priors: &[f64],
 ) -> Step
-    ensures { λ r. ⌜ answerOf r (now (pile .entry)) (now (full .entry)) (now (narrow .entry)) (now (cells .exit)) ≡ andThen (endPile (seen s (now (pile .entry)) (now (full .entry)) (now (narrow .entry)) (now (cells .entry)))) (popped w) ⌝ }
-    ensures { λ _. ⌜ now (cells .exit) ≡ cellsThen (endPile (seen s (now (pile .entry)) (now (full .entry)) (now (narrow .entry)) (now (cells .entry)))) (popped w) (now (cells .entry)) ⌝ }
+    ensures { λ r. ⌜ answerOf r (now (pile .entry)) (now (full .entry)) (now (narrow .entry)) (now (cells .exit)) ≡ andThen (endPileBy (tableScore (now (table .entry)) (now (priors .entry))) (seen s (now (pile .entry)) (now (full .entry)) (now (narrow .entry)) (now (cells .entry)))) (popped w) ⌝ }
+    ensures { λ _. ⌜ now (cells .exit) ≡ cellsThen (endPileBy (tableScore (now (table .entry)) (now (priors .entry))) (seen s (now (pile .entry)) (now (full .entry)) (now (narrow .entry)) (now (cells .entry)))) (popped w) (now (cells .entry)) ⌝ }
 {
-    let ended = end_pile(s, pile, full, narrow, cells);
+    let ended = end_pile(s, pile, full, narrow, cells, table, priors);
     match ended {
         Ended::Go(next) => pop_once(next, w % KIND, cells),
         Ended::Refused(why, index) => Step::Refused(why, index),
@@ -459,11 +503,13 @@ fn remainder_in<'a>(
     full: &'a [f64],
     narrow: &'a [f64],
     cells: &mut [f64],
+    table: &[f64],
+    priors: &[f64],
 ) -> Step
-    ensures { λ r. ⌜ answerOf r (now (pile .entry)) (now (full .entry)) (now (narrow .entry)) (now (cells .exit)) ≡ lookAtRemainder (seen s (now (pile .entry)) (now (full .entry)) (now (narrow .entry)) (now (cells .entry))) ⌝ }
-    ensures { λ _. ⌜ now (cells .exit) ≡ cellsThen (endPile (seen s (now (pile .entry)) (now (full .entry)) (now (narrow .entry)) (now (cells .entry)))) remaining (now (cells .entry)) ⌝ }
+    ensures { λ r. ⌜ answerOf r (now (pile .entry)) (now (full .entry)) (now (narrow .entry)) (now (cells .exit)) ≡ lookAtRemainderBy (tableScore (now (table .entry)) (now (priors .entry))) (seen s (now (pile .entry)) (now (full .entry)) (now (narrow .entry)) (now (cells .entry))) ⌝ }
+    ensures { λ _. ⌜ now (cells .exit) ≡ cellsThen (endPileBy (tableScore (now (table .entry)) (now (priors .entry))) (seen s (now (pile .entry)) (now (full .entry)) (now (narrow .entry)) (now (cells .entry)))) remaining (now (cells .entry)) ⌝ }
 {
-    let ended = end_pile(s, pile, full, narrow, cells);
+    let ended = end_pile(s, pile, full, narrow, cells, table, priors);
     match ended {
         Ended::Go(next) => Step::Refused(Refusal::Word, next.index),
         Ended::Refused(why, index) => Step::Refused(why, index),
@@ -476,11 +522,13 @@ fn end_in<'a>(
     full: &'a [f64],
     narrow: &'a [f64],
     cells: &mut [f64],
+    table: &[f64],
+    priors: &[f64],
 ) -> Step
-    ensures { λ r. ⌜ answerOf r (now (pile .entry)) (now (full .entry)) (now (narrow .entry)) (now (cells .exit)) ≡ lookAtEnd (seen s (now (pile .entry)) (now (full .entry)) (now (narrow .entry)) (now (cells .entry))) ⌝ }
-    ensures { λ _. ⌜ now (cells .exit) ≡ cellsThen (endPile (seen s (now (pile .entry)) (now (full .entry)) (now (narrow .entry)) (now (cells .entry)))) goes (now (cells .entry)) ⌝ }
+    ensures { λ r. ⌜ answerOf r (now (pile .entry)) (now (full .entry)) (now (narrow .entry)) (now (cells .exit)) ≡ lookAtEndBy (tableScore (now (table .entry)) (now (priors .entry))) (seen s (now (pile .entry)) (now (full .entry)) (now (narrow .entry)) (now (cells .entry))) ⌝ }
+    ensures { λ _. ⌜ now (cells .exit) ≡ cellsThen (endPileBy (tableScore (now (table .entry)) (now (priors .entry))) (seen s (now (pile .entry)) (now (full .entry)) (now (narrow .entry)) (now (cells .entry)))) goes (now (cells .entry)) ⌝ }
 {
-    let ended = end_pile(s, pile, full, narrow, cells);
+    let ended = end_pile(s, pile, full, narrow, cells, table, priors);
     match ended {
         Ended::Go(next) => Step::Go(next),
         Ended::Refused(why, index) => Step::Refused(why, index),

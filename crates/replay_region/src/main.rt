@@ -5,6 +5,8 @@ mod stream;
 
 use answer_list::Answer;
 use libc::STDOUT_FILENO;
+use region_stream::PRIORS;
+use region_stream::TABLE;
 
 // How many answers there were, how many agree, and whether the list is at its end.
 struct Tally {
@@ -19,17 +21,20 @@ fn main() {
         agreed: 0,
         at_end: false,
     };
+    let mut table = [0.0f64; TABLE];
+    let mut priors = [0.0f64; PRIORS];
+    region_stream::fill_tables(&mut table, &mut priors);
     let count = os::arg_count();
     let mut i = 1;
     while i < count {
-        t = replay_file(i, t);
+        t = replay_file(i, t, &table, &priors);
         i += 1;
     }
     report(t);
 }
 
 // With the answers of the file that argument i names.
-fn replay_file(i: usize, t: Tally) -> Tally {
+fn replay_file(i: usize, t: Tally, table: &[f64; TABLE], priors: &[f64; PRIORS]) -> Tally {
     let mut name = [0u8; 256];
     let n = os::arg(i, &mut name);
     let fd = os::open_read(&name[..n]);
@@ -38,17 +43,23 @@ fn replay_file(i: usize, t: Tally) -> Tally {
         return t;
     }
     let mut words = [0u64; 16384];
-    let next = replay_list(fd, &mut words, t);
+    let next = replay_list(fd, &mut words, t, table, priors);
     libc::close(fd);
     next
 }
 
 // With the answers of a list to its end.
-fn replay_list(fd: i32, words: &mut [u64], t: Tally) -> Tally {
+fn replay_list(
+    fd: i32,
+    words: &mut [u64],
+    t: Tally,
+    table: &[f64; TABLE],
+    priors: &[f64; PRIORS],
+) -> Tally {
     let mut next = t;
     let mut budget = 1000000000u64;
     while budget > 0 {
-        next = replay_next(fd, words, next);
+        next = replay_next(fd, words, next, table, priors);
         if next.at_end {
             return next;
         }
@@ -58,11 +69,17 @@ fn replay_list(fd: i32, words: &mut [u64], t: Tally) -> Tally {
 }
 
 // With the next answer. A list that ends within an answer counts as one that differs, and so does an answer of another function.
-fn replay_next(fd: i32, words: &mut [u64], t: Tally) -> Tally {
+fn replay_next(
+    fd: i32,
+    words: &mut [u64],
+    t: Tally,
+    table: &[f64; TABLE],
+    priors: &[f64; PRIORS],
+) -> Tally {
     let answer = answer_list::read_answer(fd, words);
     match answer {
         Answer::Words { function, count } => {
-            let same = stream::stream(&words[..count]);
+            let same = stream::stream(&words[..count], table, priors);
             counted(t, same & (function == 17), false)
         }
         Answer::Malformed => counted(t, false, true),

@@ -5,8 +5,10 @@ use answer_list::word_at;
 use region_stream::CELLS;
 use region_stream::KERNEL;
 use region_stream::PILE;
+use region_stream::PRIORS;
 use region_stream::RegionStream;
 use region_stream::Step;
+use region_stream::TABLE;
 ghost use Prim.Native.Nat.{_≤_};
 ghost use lib.ListN.{length};
 
@@ -21,15 +23,33 @@ struct Replayed {
 }
 
 // Replays the items, and then the end of the input.
-pub fn stream(words: &[u64]) -> bool {
+pub fn stream(words: &[u64], table: &[f64; TABLE], priors: &[f64; PRIORS]) -> bool {
     let mut pile = [0u32; PILE];
     let mut full = [0.0f64; KERNEL];
     let mut narrow = [0.0f64; KERNEL];
     let mut cells = [0.0f64; CELLS];
     let text = text_of(words);
     let r = start(std::num::wrapping_add_usize(text, 1));
-    let fed = items(r, words, &mut pile, &mut full, &mut narrow, &mut cells);
-    let last = end(fed, words, &mut pile, &mut full, &mut narrow, &mut cells);
+    let fed = items(
+        r,
+        words,
+        &mut pile,
+        &mut full,
+        &mut narrow,
+        &mut cells,
+        table,
+        priors,
+    );
+    let last = end(
+        fed,
+        words,
+        &mut pile,
+        &mut full,
+        &mut narrow,
+        &mut cells,
+        table,
+        priors,
+    );
     let expected = last.expected;
     expected.is_at_end(words, text)
 }
@@ -80,13 +100,15 @@ fn items(
     full: &mut [f64; KERNEL],
     narrow: &mut [f64; KERNEL],
     cells: &mut [f64; CELLS],
+    table: &[f64; TABLE],
+    priors: &[f64; PRIORS],
 ) -> Replayed {
     let count = count_of(words);
     let mut s = r;
     let mut at = 2;
     let mut i = 0;
     while i < count {
-        s = item(s, words, at, pile, full, narrow, cells);
+        s = item(s, words, at, pile, full, narrow, cells, table, priors);
         at = behind(words, at);
         i += 1;
     }
@@ -102,6 +124,8 @@ fn item(
     full: &mut [f64; KERNEL],
     narrow: &mut [f64; KERNEL],
     cells: &mut [f64; CELLS],
+    table: &[f64; TABLE],
+    priors: &[f64; PRIORS],
 ) -> Replayed {
     let times = number_at(words, at);
     let step = number_at(words, std::num::wrapping_add_usize(at, 1));
@@ -112,7 +136,18 @@ fn item(
         if s.over {
             return s;
         }
-        s = group(s, words, at, raise, pile, full, narrow, cells);
+        s = group(
+            s,
+            words,
+            at,
+            raise,
+            pile,
+            full,
+            narrow,
+            cells,
+            table,
+            priors,
+        );
         raise = std::num::wrapping_add_u32(raise, step);
         i += 1;
     }
@@ -129,6 +164,8 @@ fn group(
     full: &mut [f64; KERNEL],
     narrow: &mut [f64; KERNEL],
     cells: &mut [f64; CELLS],
+    table: &[f64; TABLE],
+    priors: &[f64; PRIORS],
 ) -> Replayed {
     let n = number_at(words, std::num::wrapping_add_usize(at, 2));
     let mut s = r;
@@ -140,7 +177,7 @@ fn group(
             return s;
         }
         let w = std::num::wrapping_add_u32(number_at(words, p), more);
-        s = word(s, words, w, pile, full, narrow, cells);
+        s = word(s, words, w, pile, full, narrow, cells, table, priors);
         more = 0;
         p = std::num::wrapping_add_usize(p, 1);
         j += 1;
@@ -157,12 +194,14 @@ fn word(
     full: &mut [f64; KERNEL],
     narrow: &mut [f64; KERNEL],
     cells: &mut [f64; CELLS],
+    table: &[f64; TABLE],
+    priors: &[f64; PRIORS],
 ) -> Replayed {
     let before = r.stream;
     let mut s = r;
     let mut looks = LOOKS;
     while looks > 0 {
-        s = look(s, words, w, pile, full, narrow, cells);
+        s = look(s, words, w, pile, full, narrow, cells, table, priors);
         if s.over | is_past(s, before.index) {
             return s;
         }
@@ -185,9 +224,11 @@ fn look(
     full: &mut [f64; KERNEL],
     narrow: &mut [f64; KERNEL],
     cells: &mut [f64; CELLS],
+    table: &[f64; TABLE],
+    priors: &[f64; PRIORS],
 ) -> Replayed {
     let stream = r.stream;
-    let step = stream.word(w, pile, full, narrow, cells);
+    let step = stream.word(w, pile, full, narrow, cells, table, priors);
     answered(r, words, step)
 }
 
@@ -226,13 +267,23 @@ fn end(
     full: &mut [f64; KERNEL],
     narrow: &mut [f64; KERNEL],
     cells: &mut [f64; CELLS],
+    table: &[f64; TABLE],
+    priors: &[f64; PRIORS],
 ) -> Replayed {
     if r.over {
         return r;
     }
     let stream = r.stream;
     if word_at(words, 1) == 0 {
-        return answered(r, words, stream.end(pile, full, narrow, cells));
+        return answered(
+            r,
+            words,
+            stream.end(pile, full, narrow, cells, table, priors),
+        );
     }
-    answered(r, words, stream.remainder(pile, full, narrow, cells))
+    answered(
+        r,
+        words,
+        stream.remainder(pile, full, narrow, cells, table, priors),
+    )
 }

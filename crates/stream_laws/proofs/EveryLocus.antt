@@ -18,7 +18,7 @@ use Rattle.activity_profile.specs.Run.{Call, Add, Pop, Lent, step, after, accep
 use Rattle.activity_profile.proofs.Demand3.{demand-3}
 use Rattle.region_stream.specs.declared.StreamSettings.{StreamSettings}
 use Rattle.region_stream.specs.Settings.{paramsOf, fieldOf, valueOf, withField}
-use Rattle.region_stream.specs.Program.{Reading, Place, atSettings, atLoci, inPile, Ending, goesOn, stopsAt, Answer, goes, line, stops, next, moved, holding, bufferSize, kindOf, addedOutcome, pileScore, scoreAdded, scoreCells, endedWith, ended, endPile, andThen, opening, madeWith, openedAt, opened, deepened, observedAt, observed, popMade, popAt, poppedFor, popped, setBy, setAt, look}
+use Rattle.region_stream.specs.Program.{Reading, Place, atSettings, atLoci, inPile, Ending, goesOn, stopsAt, Answer, goes, line, stops, next, moved, holding, bufferSize, kindOf, addedOutcome, pileScore, scoreAdded, scoreCells, endedWith, endPile, andThen, opening, madeWith, openedAt, opened, deepened, observedAt, observed, popMade, popAt, poppedFor, popped, setBy, setAt, look, endedBy, lookBy}
 use Rattle.region_stream.specs.Program.{poppedBy as popAnswered}
 use Rattle.region_stream.specs.Stream.{start}
 use Rattle.stream_laws.specs.Reach.{readAt, readBy, Reached, nothing-yet, going, printing, linesLoci, OfCalls}
@@ -138,7 +138,7 @@ module _ (cells : List Float) (read : List ℕ) (lines : List ActivityProfileReg
 
 -- the end of a pile reads its locus
 end-after : (cells : List Float) (read : List ℕ) (lines : List ActivityProfileRegion) (s : Reading) → Trace cells read lines s → EndAfter cells (read ++ readAt (s .place)) lines (endPile s)
-unfolding ended endedWith scoreAdded scoreCells step acceptedBy poppedBy
+unfolding endedBy endedWith scoreAdded scoreCells step acceptedBy poppedBy
 end-after cells read lines s t = go (s .place) refl
   where
     added : (p i : ℕ) (x : ActivityProfileState) → at x ≡ p → OfCalls cells read lines s → (a : AddAnswer) → addAnswer (s .profile) (s .cells) (s .kernel) x ≡ a
@@ -154,13 +154,13 @@ end-after cells read lines s t = go (s .place) refl
     scored p i words o (refused n) e = tt
     scored p i words o (answered x) e = added p i x (score-of p words x e .position) o (addAnswer (s .profile) (s .cells) (s .kernel) x) refl
 
-    go : (x : Place) → s .place ≡ x → EndAfter cells (read ++ readAt x) lines (ended s x)
+    go : (x : Place) → s .place ≡ x → EndAfter cells (read ++ readAt x) lines (endedBy pileScore s x)
     go atSettings e = subst (λ z. Trace cells z lines s) (sym (append-nil read)) t
     go atLoci e = subst (λ z. Trace cells z lines s) (sym (append-nil read)) t
     go (inPile p i words) e = scored p i words (calls-of cells read lines s t (past s (inPile p i words) e (pile-past p i words))) (pileScore p words) refl
 
 look-after : (cells : List Float) (read : List ℕ) (lines : List ActivityProfileRegion) (w : ℕ) (s : Reading) → Trace cells read lines s → After cells (read ++ readBy w (s .place)) lines (look w s)
-unfolding look
+unfolding lookBy
 look-after cells read lines w s t = go (eqb (kindOf w) 0) (eqb (kindOf w) 1) (eqb (kindOf w) 2)
   where
     ends : List ℕ

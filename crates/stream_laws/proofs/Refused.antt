@@ -24,7 +24,7 @@ use Rattle.genotype_likelihoods.specs.Settings.{defaults}
 use Rattle.activity_scoring.proofs.Probability.{score-never-8}
 use Rattle.region_stream.specs.declared.StreamSettings.{StreamSettings}
 use Rattle.region_stream.specs.Settings.{paramsOf, fieldOf, valueOf, withField}
-use Rattle.region_stream.specs.Program.{Reading, Place, atSettings, atLoci, inPile, Ending, goesOn, stopsAt, Answer, goes, line, stops, next, moved, holding, bufferSize, kindOf, addedOutcome, pileScore, scoreAdded, scoreCells, endedWith, ended, endPile, andThen, madeWith, openedAt, opened, observedAt, observed, popMade, popAt, poppedFor, popped, setBy, setAt, look, remaining, atEnd, Printed, closed, looks, program}
+use Rattle.region_stream.specs.Program.{Reading, Place, atSettings, atLoci, inPile, Ending, goesOn, stopsAt, Answer, goes, line, stops, next, moved, holding, bufferSize, kindOf, addedOutcome, pileScore, scoreAdded, scoreCells, endedWith, endPile, andThen, madeWith, openedAt, opened, observedAt, observed, popMade, popAt, poppedFor, popped, setBy, setAt, look, remaining, atEnd, Printed, closed, looks, program, endedBy, lookBy}
 use Rattle.region_stream.specs.Program.{poppedBy as popAnswered}
 use Rattle.region_stream.specs.Stream.{start}
 use Rattle.stream_laws.specs.Reach.{Possible, word, zeroSize, ClosePossible}
@@ -54,7 +54,7 @@ EndAfter (stopsAt n i) = Possible n
 -- ---- the end of a pile
 
 end-after : (s : Reading) → Sane s → EndAfter (endPile s)
-unfolding ended endedWith scoreAdded scoreCells addAnswer addAnswerBy addedProfile step
+unfolding endedBy endedWith scoreAdded scoreCells addAnswer addAnswerBy addedProfile step
 end-after s t = go (s .place) refl
   where
     P : BandPassActivityProfile
@@ -74,7 +74,7 @@ end-after s t = go (s .place) refl
     scored p i words r (refused n) e = score-refused p words n e
     scored p i words r (answered x) e = added i x r (score-of p words x e .contig) (score-never-8 0 (record { 0 = p }) words defaults x e) (addVerdict P (length (s .cells)) (length (s .kernel)) x) refl
 
-    go : (x : Place) → s .place ≡ x → EndAfter (ended s x)
+    go : (x : Place) → s .place ≡ x → EndAfter (endedBy pileScore s x)
     go atSettings e = t
     go atLoci e = t
     go (inPile p i words) e = scored p i words (t (past s (inPile p i words) e (pile-past p i words))) (pileScore p words) refl
@@ -178,7 +178,7 @@ popped-after value s t = go (ltb 1 value) (s .place) refl
     go false (inPile p i words) e = made-after (eqb value 1) s (t (past s (inPile p i words) e (pile-past p i words)))
 
 look-after : (w : ℕ) (s : Reading) → Sane s → After (look w s)
-unfolding look
+unfolding lookBy
 look-after w s t = go (eqb (kindOf w) 0) (eqb (kindOf w) 1) (eqb (kindOf w) 2)
   where
     go : (a b c : Bool) → After (cond a (andThen (endPile s) (opened w)) (cond b (observed w s) (cond c (andThen (endPile s) (popped w)) (setAt w s (s .place)))))

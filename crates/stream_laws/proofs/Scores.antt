@@ -13,7 +13,7 @@ use Rattle.activity_profile.specs.declared.ActivityEvidence.the-variants.{Plain
 use Rattle.activity_profile.specs.Add.{at}
 use Rattle.genotype_likelihoods.specs.Settings.{defaults}
 use Rattle.activity_scoring.specs.Mean.{meanOf}
-use Rattle.activity_scoring.specs.Score.{inRange, maxDepth, allObservations, evidenceOf, activityOf, state, stateOf, scoreOf}
+use Rattle.activity_scoring.specs.Score.{inRange, maxDepth, allObservations, evidenceOf, activityOf, state, stateWith, stateOf, scoreWith, scoreOf}
 use Rattle.region_stream.specs.Program.{Reading, Place, atSettings, atLoci, inPile, pileScore}
 use Rattle.stream_laws.specs.Reach.{Possible, setting, word, depth}
 
@@ -25,7 +25,7 @@ pub record ScoreOf (p : ℕ) (x : ActivityProfileState) : Type 0 where
   pub contig : x .contig ≡ 0
 
 state-of : (p : ℕ) (words : List ℕ) → ScoreOf p (stateOf 0 (record { 0 = p }) words defaults)
-unfolding stateOf
+unfolding stateWith
 state-of p words = go (eqb (length words) 0)
   where
     go : (b : Bool) → ScoreOf p (cond b (state 0 (record { 0 = p }) (record { probability = zeroF; original = zeroF }) Plain) (state 0 (record { 0 = p }) (activityOf words defaults) (evidenceOf (meanOf defaults words))))
@@ -33,7 +33,7 @@ state-of p words = go (eqb (length words) 0)
     go false = record { position = refl; contig = refl }
 
 pub score-of : (p : ℕ) (words : List ℕ) (x : ActivityProfileState) → pileScore p words ≡ answered x → ScoreOf p x
-unfolding scoreOf
+unfolding scoreWith
 score-of p words x = go (not (inRange (record { 0 = p }) defaults)) (ltb maxDepth (length words)) (not (allObservations words))
   where
     go : (a b c : Bool) → cond a (refused 1) (cond b (refused 4) (cond c (refused 3) (answered (stateOf 0 (record { 0 = p }) words defaults)))) ≡ answered x → ScoreOf p x
@@ -43,7 +43,7 @@ score-of p words x = go (not (inRange (record { 0 = p }) defaults)) (ltb maxDept
     go false false false e = let z : stateOf 0 (record { 0 = p }) words defaults ≡ x = cc in subst (ScoreOf p) z (state-of p words)
 
 pub score-refused : (p : ℕ) (words : List ℕ) (n : ℕ) → pileScore p words ≡ refused n → Possible n
-unfolding scoreOf
+unfolding scoreWith
 score-refused p words n = go (not (inRange (record { 0 = p }) defaults)) (ltb maxDepth (length words)) (not (allObservations words))
   where
     of : (m : ℕ) → Possible m → _≡_ {A = Outcome ActivityProfileState} (refused m) (refused n) → Possible n

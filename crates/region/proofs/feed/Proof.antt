@@ -1,16 +1,16 @@
--- `feed` ends: each look goes on to the next word or leaves fewer looks at this one.
+-- `feed` ends: each turn goes on to a later word, or leaves fewer looks at this one.
 use Prim.Native.Nat.{_*_, _+_, _-_, _≤_}
-use Rattle.region_stream.specs.Stream.{looksLeft}
 use borrow.Author.Needs.{needs}
 use native.Mathlib.Omega.{arith}
+use Rattle.region_stream.specs.Stream.{looksLeft}
 use Rattle.region.proofs.feed.Statement.{statement}
 use Rattle.region.proofs.feed.Tie as tie
 
 abbrev Inv-loop : tie.InvT-loop
-Inv-loop n input lines₀ pile₀ full₀ narrow₀ cells₀ s₀ lines pile full narrow cells s = s .at ≤ n
+Inv-loop words count lines₀ pile₀ full₀ narrow₀ cells₀ table priors s₀ lines pile full narrow cells s = s .at ≤ count
 
 abbrev μ-loop : tie.MeasureT-loop
-μ-loop n input lines₀ pile₀ full₀ narrow₀ cells₀ s₀ lines pile full narrow cells s = (n - s .at) * 1100 + looksLeft (s .stream)
+μ-loop words count lines₀ pile₀ full₀ narrow₀ cells₀ table priors s₀ lines pile full narrow cells s = (count - s .at) * 4400 + looksLeft (s .stream)
 
 from-start-requires : tie.Need-from-start-requires Inv-loop μ-loop
 from-start-requires c κs = search needs
@@ -18,25 +18,19 @@ from-start-requires c κs = search needs
 loop-holds : tie.Need-loop-holds Inv-loop μ-loop
 loop-holds c = omega (arith, c .from-start .ensures)
 
-add-if1 : tie.Need-add-if1 Inv-loop μ-loop
-add-if1 c = search needs
-
 returns : tie.Need-returns Inv-loop μ-loop
 returns c = tt
 
-word-at-requires : tie.Need-word-at-requires Inv-loop μ-loop
-word-at-requires c κs = search needs
-
-look-requires : tie.Need-look-requires Inv-loop μ-loop
-look-requires c κs =
-    let loop = c .before .before .before .before .before .before .before .before .before in
-    omega (arith, loop .loop .inv, loop .before .before .before .pre .1, c .before .before .before .before .before .before .before .if1 .taken)
+advance-requires : tie.Need-advance-requires Inv-loop μ-loop
+advance-requires c κs =
+    let start = c .before .before .before .before .before .before .before .before .before .before .before in
+    (c .before .before .before .before .before .before .if1 .taken, start .pre .0, start .pre .1)
 
 loop-less : tie.Need-loop-less Inv-loop μ-loop
-loop-less c = omega (arith, c .look .ensures, c .before .before .before .before .before .before .before .before .if1 .taken)
+loop-less c = omega (arith, c .advance .ensures, c .before .before .before .before .before .before .before .if1 .taken)
 
 loop-again : tie.Need-loop-again Inv-loop μ-loop
-loop-again c = omega (arith, c .look .ensures, c .before .before .before .before .before .before .before .before .if1 .taken)
+loop-again c = c .advance .ensures .0
 
 returns-2 : tie.Need-returns-2 Inv-loop μ-loop
 returns-2 c = tt
@@ -49,10 +43,8 @@ feed-spec =
     μ-loop
     from-start-requires
     loop-holds
-    add-if1
     returns
-    word-at-requires
-    look-requires
+    advance-requires
     loop-less
     loop-again
     returns-2)

@@ -1,8 +1,8 @@
 -- `next_block` keeps at most three bytes of a word.
-use Rattle.region.specs.Blocks.{BlockUpTo}
 use borrow.Author.Needs.{needs}
 use mathlib.Core.Path.{subst}
 use native.Mathlib.Omega.{arith}
+use Rattle.region.specs.Blocks.{BlockUpTo}
 use Rattle.region.proofs.next_block.Statement.{statement}
 use Rattle.region.proofs.next_block.Tie as tie
 
@@ -12,16 +12,23 @@ read-block-requires c κs = search needs
 enum-known-block : tie.Need-enum-known-block
 enum-known-block c = search needs
 
+read-words-requires : tie.Need-read-words-requires
+read-words-requires c κs =
+    let read = c .before .before .before .before .before .before in
+    let few = subst (BlockUpTo 65536) (c .before .before .before .before .block .given .1) (read .read-block .ensures .0) in
+    (omega (arith, few, read .read-block .ensures .1), few, search needs)
+
 feed-requires : tie.Need-feed-requires
 feed-requires c κs =
-    let read = c .before .before .before .before .before .before .before .before .before .before in
-    let few = subst (BlockUpTo 65536) (c .before .before .before .before .before .before .before .before .block .given .1) (read .read-block .ensures .0) in
-    (omega (arith, few, read .read-block .ensures .1), few)
+    let read = c .before .before .before .before .before .before .before .before .before .before .before .before .before .before in
+    let few = subst (BlockUpTo 65536) (c .before .before .before .before .before .before .before .before .before .before .before .before .block .given .1) (read .read-block .ensures .0) in
+    let n = c .before .before .before .before .before .before .before .read-words .ensures .0 in
+    (n .1, omega (arith, few, n .0))
 
 keep-rest-requires : tie.Need-keep-rest-requires
 keep-rest-requires c κs =
-    let read = c .before .before .before .before .before .before .before .before .before .before .before .before in
-    let few = subst (BlockUpTo 65536) (c .before .before .before .before .before .before .before .before .before .before .block .given .1) (read .read-block .ensures .0) in
+    let read = c .before .before .before .before .before .before .before .before .before .before .before .before .before .before .before .before in
+    let few = subst (BlockUpTo 65536) (c .before .before .before .before .before .before .before .before .before .before .before .before .before .before .block .given .1) (read .read-block .ensures .0) in
     omega (arith, few, read .read-block .ensures .1)
 
 flushed-requires : tie.Need-flushed-requires
@@ -49,10 +56,10 @@ returns : tie.Need-returns
 returns c = c .flushed .ensures
 
 returns-2 : tie.Need-returns-2
-returns-2 c = c .end .ensures
+returns-2 c = search needs
 
 returns-3 : tie.Need-returns-3
-returns-3 c = c .stopped .ensures
+returns-3 c = search needs
 
 pub next-block-spec : {M : Type 1} → statement M
 next-block-spec =
@@ -60,6 +67,7 @@ next-block-spec =
     (tie.spec
     read-block-requires
     enum-known-block
+    read-words-requires
     feed-requires
     keep-rest-requires
     flushed-requires

@@ -1,4 +1,4 @@
--- `run` ends: it counts its blocks down. Between blocks at most three bytes are kept.
+-- `run` ends: it counts its blocks down.
 use Prim.Native.Nat.{_≤_}
 use borrow.Author.Needs.{needs}
 use native.Mathlib.Omega.{arith}
@@ -6,10 +6,10 @@ use Rattle.region.proofs.run.Statement.{statement}
 use Rattle.region.proofs.run.Tie as tie
 
 abbrev Inv-loop : tie.InvT-loop
-Inv-loop input₀ lines₀ pile₀ full₀ narrow₀ cells₀ r₀ turns₀ input lines pile full narrow cells r turns = r .at ≤ 3
+Inv-loop input₀ words₀ lines₀ pile₀ full₀ narrow₀ cells₀ table priors r₀ turns₀ input words lines pile full narrow cells r turns = r .at ≤ 3
 
 abbrev μ-loop : tie.MeasureT-loop
-μ-loop input₀ lines₀ pile₀ full₀ narrow₀ cells₀ r₀ turns₀ input lines pile full narrow cells r turns = turns
+μ-loop input₀ words₀ lines₀ pile₀ full₀ narrow₀ cells₀ table priors r₀ turns₀ input words lines pile full narrow cells r turns = turns
 
 start-requires : tie.Need-start-requires Inv-loop μ-loop
 start-requires c κs = search needs
@@ -18,7 +18,7 @@ loop-holds : tie.Need-loop-holds Inv-loop μ-loop
 loop-holds c = omega (arith, c .start .ensures)
 
 next-block-requires : tie.Need-next-block-requires Inv-loop μ-loop
-next-block-requires c κs = c .before .before .before .before .before .before .before .loop .inv
+next-block-requires c κs = search needs
 
 returns : tie.Need-returns Inv-loop μ-loop
 returns c = tt

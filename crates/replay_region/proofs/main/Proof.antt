@@ -5,10 +5,13 @@ use Rattle.replay_region.proofs.main.Statement.{statement}
 use Rattle.replay_region.proofs.main.Tie as tie
 
 abbrev Inv-loop : tie.InvT-loop
-Inv-loop t₀ count i₀ t i = Unit {0}
+Inv-loop t₀ table priors count i₀ t i = Unit {0}
 
 abbrev μ-loop : tie.MeasureT-loop
-μ-loop t₀ count i₀ t i = count - i
+μ-loop t₀ table priors count i₀ t i = count - i
+
+fill-tables-requires : tie.Need-fill-tables-requires Inv-loop μ-loop
+fill-tables-requires c κs = search needs
 
 arg-count-requires : tie.Need-arg-count-requires Inv-loop μ-loop
 arg-count-requires c κs = search needs
@@ -40,6 +43,7 @@ main-spec =
     (tie.spec
     Inv-loop
     μ-loop
+    fill-tables-requires
     arg-count-requires
     loop-holds
     replay-file-requires

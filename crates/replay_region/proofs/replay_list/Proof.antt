@@ -1,5 +1,4 @@
 -- `replay_list` is safe and ends: the budget falls with each answer, and the slice keeps its length.
-use Rattle.region_stream.specs.Program.{next}
 use borrow.Author.Needs.{needs}
 use lib.ListN.{length}
 use mathlib.Core.Path.{_≡_}
@@ -7,10 +6,10 @@ use Rattle.replay_region.proofs.replay_list.Statement.{statement}
 use Rattle.replay_region.proofs.replay_list.Tie as tie
 
 abbrev Inv-loop : tie.InvT-loop
-Inv-loop fd words₀ next₀ budget₀ words next budget = length words ≡ length words₀
+Inv-loop fd words₀ table priors next₀ budget₀ words next budget = length words ≡ length words₀
 
 abbrev μ-loop : tie.MeasureT-loop
-μ-loop fd words₀ next₀ budget₀ words next budget = budget
+μ-loop fd words₀ table priors next₀ budget₀ words next budget = budget
 
 loop-holds : tie.Need-loop-holds Inv-loop μ-loop
 loop-holds c = search needs

@@ -1,12 +1,14 @@
--- `hq_soft_clip_running_mean_rcm_path` meets its contract: the words from here on, begun with the mean so far.
+-- `hq_soft_clip_running_mean_rcm_path` meets its contract: no mean without a clip; else the words from here on, begun with the mean so far.
 use Prim.Native.Nat.{_-_, _≤_}
+use borrow.Author.Needs.{needs}
+use lib.ListN.{drop, getD, length}
 use mathlib.Core.Path.{_∙_, _≡_, ap, sym}
 use native.Mathlib.Omega.{arith}
-use lib.ListN.{drop, getD, length}
-use borrow.Author.Needs.{needs}
-use Rattle.activity_scoring.proofs.Counts.{withWord-count}
+use Rattle.activity_scoring.proofs.Counts.{no-clips, withWord-count}
 use Rattle.activity_scoring.specs.Mean.{meanOf, none, withWord}
+use Rattle.activity_scoring.specs.declared.RunningMean.{RunningMean}
 use Rattle.lists.specs.Loops.{foldl, foldl-end, foldl-turn}
+use Rattle.lists.specs.Tests.{not-true}
 use Rattle.activity_scoring.proofs.mean.hq_soft_clip_running_mean_rcm_path.Statement.{statement}
 use Rattle.activity_scoring.proofs.mean.hq_soft_clip_running_mean_rcm_path.Tie as tie
 
@@ -15,6 +17,16 @@ Inv-loop pile params r₀ i₀ r i = (i ≤ length pile) × (r .count ≤ i) × 
 
 abbrev μ-loop : tie.MeasureT-loop
 μ-loop pile params r₀ i₀ r i = length pile - i
+
+has-clips-requires : tie.Need-has-clips-requires Inv-loop μ-loop
+has-clips-requires c κs = search needs
+
+returns : tie.Need-returns Inv-loop μ-loop
+unfolding meanOf
+returns c =
+    let at = c .before in
+    let a = at .before .before .args in
+    sym (ap (λ (q : RunningMean). q .mean) (no-clips (a .params) none (a .pile .now) (sym (at .has-clips .ensures) ∙ not-true (at .has-clips .result) (c .if1 .taken))))
 
 loop-holds : tie.Need-loop-holds Inv-loop μ-loop
 loop-holds c = search needs
@@ -37,16 +49,16 @@ loop-less c = search needs
 loop-again : tie.Need-loop-again Inv-loop μ-loop
 loop-again c =
     let at = c .before .before .before in
-    let a = at .before .before .args in
+    let a = at .before .before .before .before .args in
     let w = getD (a .pile .now) (at .loop .i) 0 in (
       omega arith,
       rw (c .with-word .ensures) (omega (arith, withWord-count (a .params) (at .loop .r) w)),
       rw (c .with-word .ensures) (foldl-turn (withWord (a .params)) (at .loop .r) (a .pile .now) (at .loop .i) 0 (omega arith) ∙ at .loop .inv .2),
     )
 
-returns : tie.Need-returns Inv-loop μ-loop
+returns-2 : tie.Need-returns-2 Inv-loop μ-loop
 unfolding meanOf
-returns c = ap (λ q. q .mean) (sym (foldl-end (withWord _) _ _ _ (c .loop-test .left)) ∙ c .before .loop .inv .2)
+returns-2 c = ap (λ (q : RunningMean). q .mean) (sym (foldl-end (withWord _) _ _ _ (c .loop-test .left)) ∙ c .before .loop .inv .2)
 
 pub hq-soft-clip-running-mean-rcm-path-spec : {M : Type 1} → statement M
 hq-soft-clip-running-mean-rcm-path-spec =
@@ -54,6 +66,8 @@ hq-soft-clip-running-mean-rcm-path-spec =
     (tie.spec
     Inv-loop
     μ-loop
+    has-clips-requires
+    returns
     loop-holds
     mul-with-word
     shared-slice-read-with-word
@@ -61,4 +75,4 @@ hq-soft-clip-running-mean-rcm-path-spec =
     add-i
     loop-less
     loop-again
-    returns)
+    returns-2)

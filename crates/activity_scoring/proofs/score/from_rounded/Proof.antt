@@ -1,6 +1,6 @@
 -- `from_rounded` meets its contract.
-use mathlib.Core.Path.{refl}
 use borrow.Author.Needs.{needs}
+use mathlib.Core.Path.{refl}
 use Rattle.activity_scoring.proofs.score.from_rounded.Statement.{statement}
 use Rattle.activity_scoring.proofs.score.from_rounded.Tie as tie
 
@@ -16,8 +16,8 @@ slice-read-original c = search needs
 slice-read-original-2 : tie.Need-slice-read-original-2
 slice-read-original-2 c = search needs
 
-calculate-single-sample-biallelic-non-ref-posterior-requires : tie.Need-calculate-single-sample-biallelic-non-ref-posterior-requires
-calculate-single-sample-biallelic-non-ref-posterior-requires c κs = search needs
+calculate-single-sample-biallelic-non-ref-posterior-by-priors-requires : tie.Need-calculate-single-sample-biallelic-non-ref-posterior-by-priors-requires
+calculate-single-sample-biallelic-non-ref-posterior-by-priors-requires c κs = search needs
 
 same-length : tie.Need-same-length
 same-length c = search needs
@@ -25,7 +25,7 @@ same-length c = search needs
 returns : tie.Need-returns
 returns c =
     let at = c .before .before in
-    simp (at .calculate-single-sample-biallelic-non-ref-posterior .ensures .0, at .calculate-single-sample-biallelic-non-ref-posterior .ensures .1, at .before .before .before .before .max-element-index .ensures .0) (refl, refl)
+    simp (at .calculate-single-sample-biallelic-non-ref-posterior-by-priors .ensures .0, at .calculate-single-sample-biallelic-non-ref-posterior-by-priors .ensures .1, at .before .before .before .before .max-element-index .ensures .0) (refl, refl)
 
 pub from-rounded-spec : {M : Type 1} → statement M
 from-rounded-spec =
@@ -35,6 +35,6 @@ from-rounded-spec =
     mul-original
     slice-read-original
     slice-read-original-2
-    calculate-single-sample-biallelic-non-ref-posterior-requires
+    calculate-single-sample-biallelic-non-ref-posterior-by-priors-requires
     same-length
     returns)

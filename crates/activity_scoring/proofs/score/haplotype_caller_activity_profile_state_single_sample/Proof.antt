@@ -1,48 +1,29 @@
--- `haplotype_caller_activity_profile_state_single_sample` meets its contract: the refusals in their order, or the state.
-use mathlib.Core.Path.{_∙_, sym}
+-- `haplotype_caller_activity_profile_state_single_sample` meets its contract: the score without tables.
 use borrow.Author.Needs.{needs}
-use borrow.Author.Tests.{le-ltb, lt-ltb, not-false}
-use Rattle.activity_scoring.proofs.Counts.{ploidy-at-most}
-use Rattle.activity_scoring.specs.Score.{scoreOf}
+use mathlib.Core.Path.{_∙_}
+use Rattle.activity_scoring.specs.Tables.{score-none}
 use Rattle.activity_scoring.proofs.score.haplotype_caller_activity_profile_state_single_sample.Statement.{statement}
 use Rattle.activity_scoring.proofs.score.haplotype_caller_activity_profile_state_single_sample.Tie as tie
 
-is-in-range-requires : tie.Need-is-in-range-requires
-is-in-range-requires c κs = search needs
+array-share-prefix-array : tie.Need-array-share-prefix-array
+array-share-prefix-array c = search needs
+
+slice-aggregate-none : tie.Need-slice-aggregate-none
+slice-aggregate-none c = search needs
+
+haplotype-caller-activity-profile-state-by-tables-requires : tie.Need-haplotype-caller-activity-profile-state-by-tables-requires
+haplotype-caller-activity-profile-state-by-tables-requires c κs = search needs
 
 returns : tie.Need-returns
-unfolding scoreOf
-returns c = simp (← c .before .is-in-range .ensures, c .if1 .taken)
-
-returns-2 : tie.Need-returns-2
-unfolding scoreOf
-returns-2 c = simp (← c .before .before .is-in-range .ensures, c .before .if1 .left, lt-ltb _ _ (c .if2 .taken))
-
-are-observations-requires : tie.Need-are-observations-requires
-are-observations-requires c κs = search needs
-
-returns-3 : tie.Need-returns-3
-unfolding scoreOf
-returns-3 c = simp (← c .before .before .before .before .is-in-range .ensures, c .before .before .before .if1 .left, le-ltb _ _ (c .before .before .if2 .left), ← c .before .are-observations .ensures, c .if3 .taken)
-
-state-of-requires : tie.Need-state-of-requires
-state-of-requires c κs =
-    let at = c .before .before .before .before in
-    let a = at .before .before .args in
-    ploidy-at-most (a .pos) (a .params) (sym (at .is-in-range .ensures) ∙ not-false (at .is-in-range .result) (c .before .before .before .if1 .left))
-
-returns-4 : tie.Need-returns-4
-unfolding scoreOf
-returns-4 c = simp (← c .before .before .before .before .before .is-in-range .ensures, c .before .before .before .before .if1 .left, le-ltb _ _ (c .before .before .before .if2 .left), ← c .before .before .are-observations .ensures, c .before .if3 .left, c .state-of .ensures)
+returns c =
+    let a = c .before .before .before .args in
+    c .haplotype-caller-activity-profile-state-by-tables .ensures ∙ score-none (a .params) (a .contig) (a .pos) (a .pile .now)
 
 pub haplotype-caller-activity-profile-state-single-sample-spec : {M : Type 1} → statement M
 haplotype-caller-activity-profile-state-single-sample-spec =
     tie.close
     (tie.spec
-    is-in-range-requires
-    returns
-    returns-2
-    are-observations-requires
-    returns-3
-    state-of-requires
-    returns-4)
+    array-share-prefix-array
+    slice-aggregate-none
+    haplotype-caller-activity-profile-state-by-tables-requires
+    returns)

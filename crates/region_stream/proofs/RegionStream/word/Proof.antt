@@ -1,6 +1,6 @@
 -- `word` meets its contract: it is `look_at` on the whole of each array, and a line leaves fewer looks (proofs/Lines).
 use Rattle.region_stream.proofs.Lines.{lines-end}
-use Rattle.region_stream.specs.Stream.{cellsAfter, fullAfter, narrowAfter, pileAfter, seen}
+use Rattle.region_stream.specs.Tables.{tableScore}
 use borrow.Author.Needs.{needs}
 use lib.ListN.{length}
 use mathlib.Core.Path.{_≡_}
@@ -13,11 +13,10 @@ look-at-requires c κs = search needs
 returns : tie.Need-returns
 returns c =
     let f = c .look-at .ensures in
-    let a = c .before .before .before .before .before .args in
-    let s = seen (a .self) (a .pile .now) (a .full .now) (a .narrow .now) (a .cells .now) in
+    let a = c .before .before .before .before .before .before .before .args in
+    let scoring = tableScore (a .table .now) (a .priors .now) in
     let long : length (a .cells .now) ≡ 4096 = search needs in
-    let e = simp (f .1 .0, f .1 .1 .0, f .1 .1 .1 .0, f .1 .1 .1 .1) at (f .0) in
-    let fewer = lines-end (a .w) (a .self) (c .look-at .result) (a .pile .now) (pileAfter (a .w) (a .self .phase) (a .pile .now)) (a .full .now) (a .narrow .now) (a .cells .now) (fullAfter (a .w) s (a .full .now) (length (a .narrow .now))) (narrowAfter (a .w) s (length (a .full .now)) (a .narrow .now)) (cellsAfter (a .w) s (a .cells .now)) long e in
+    let fewer = lines-end scoring (a .w) (a .self) (c .look-at .result) (a .pile .now) _ (a .full .now) (a .narrow .now) (a .cells .now) _ _ _ long (f .0) in
     (f .0, (f .1 .0, (f .1 .1 .0, (f .1 .1 .1 .0, (f .1 .1 .1 .1, fewer)))))
 
 pub word-spec : {M : Type 1} → statement M

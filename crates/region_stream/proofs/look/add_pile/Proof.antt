@@ -8,8 +8,8 @@ use Rattle.region_stream.proofs.look.add_pile.Tie as tie
 default-requires : tie.Need-default-requires
 default-requires c κs = search needs
 
-haplotype-caller-activity-profile-state-single-sample-requires : tie.Need-haplotype-caller-activity-profile-state-single-sample-requires
-haplotype-caller-activity-profile-state-single-sample-requires c κs = search needs
+haplotype-caller-activity-profile-state-by-tables-requires : tie.Need-haplotype-caller-activity-profile-state-by-tables-requires
+haplotype-caller-activity-profile-state-by-tables-requires c κs = search needs
 
 enum-known-scored : tie.Need-enum-known-scored
 enum-known-scored c = search needs
@@ -24,7 +24,7 @@ returns : tie.Need-returns
 unfolding scoreAdded scoreCells
 returns c =
     let score = c .before .before .before in
-    simp (← score .before .default .ensures, ← score .haplotype-caller-activity-profile-state-single-sample .ensures, c .before .enum-told .given .1, c .refused-score .ensures) (refl, refl)
+    simp (← score .before .default .ensures, ← score .haplotype-caller-activity-profile-state-by-tables .ensures, c .before .enum-told .given .1, c .refused-score .ensures) (refl, refl)
 
 add-requires : tie.Need-add-requires
 add-requires c κs = search needs
@@ -43,7 +43,7 @@ unfolding scoreAdded scoreCells
 returns-2 c =
     let call = c .before .before .before .before .before in
     let score = call .before .before .before .before .before in
-    simp (← score .before .default .ensures, ← score .haplotype-caller-activity-profile-state-single-sample .ensures, call .before .before .before .scored .given .1, ← call .add .ensures .0, c .before .added .given .1, call .add .ensures .1) (refl, refl)
+    simp (← score .before .default .ensures, ← score .haplotype-caller-activity-profile-state-by-tables .ensures, call .before .before .before .scored .given .1, ← call .add .ensures .0, c .before .added .given .1, call .add .ensures .1) (refl, refl)
 
 same-length-2 : tie.Need-same-length-2
 same-length-2 c = search needs
@@ -53,14 +53,14 @@ unfolding scoreAdded scoreCells
 returns-3 c =
     let call = c .before .before .before .before .before in
     let score = call .before .before .before .before .before in
-    simp (← score .before .default .ensures, ← score .haplotype-caller-activity-profile-state-single-sample .ensures, call .before .before .before .scored .given .1, ← call .add .ensures .0, c .before .added2 .given .1, call .add .ensures .1) (refl, refl)
+    simp (← score .before .default .ensures, ← score .haplotype-caller-activity-profile-state-by-tables .ensures, call .before .before .before .scored .given .1, ← call .add .ensures .0, c .before .added2 .given .1, call .add .ensures .1) (refl, refl)
 
 pub add-pile-spec : {M : Type 1} → statement M
 add-pile-spec =
     tie.close
     (tie.spec
     default-requires
-    haplotype-caller-activity-profile-state-single-sample-requires
+    haplotype-caller-activity-profile-state-by-tables-requires
     enum-known-scored
     enum-told
     refused-score-requires

@@ -1,7 +1,7 @@
 -- `end_pile` meets its contract by the place: without a pile nothing changes, and a pile's score is added with the kernel of the buffers.
 use Rattle.region_stream.proofs.Kept.{cells-scored}
 use Rattle.region_stream.proofs.Places.{ends-added, ends-refused}
-use Rattle.region_stream.specs.Program.{ended}
+use Rattle.region_stream.specs.Program.{endedBy}
 use Rattle.region_stream.specs.Stream.{cellsEnded, pileAddedOf}
 use borrow.Author.Needs.{needs}
 use mathlib.Core.Path.{_∙_, ap, refl, sym}
@@ -39,11 +39,11 @@ enum-known-added-2 : tie.Need-enum-known-added-2
 enum-known-added-2 c = search needs
 
 returns : tie.Need-returns
-unfolding ended
+unfolding endedBy
 returns c = simp (c .enum-told .given .1) (refl, refl)
 
 returns-2 : tie.Need-returns-2
-unfolding ended
+unfolding endedBy
 returns-2 c = simp (c .enum-told2 .given .1) (refl, refl)
 
 same-length : tie.Need-same-length
@@ -54,11 +54,11 @@ returns-3 c =
     let call = c .before .before .before .before .before .before in
     let kernel = call .before .before .before in
     let told = kernel .before .before .before .before .phase .given .1 in
-    let a = kernel .before .before .before .before .before .before .before .before .before .before .args in
+    let a = kernel .before .before .before .before .before .before .before .before .before .before .before .before .args in
     let facts = call .add-pile .ensures in
     let added = simp (call .before .before .front .ensures, kernel .normalized-kernel .ensures, kernel .before .params .ensures) at (sym (facts .0) ∙ ap pileAddedOf (c .before .before .added .given .1)) in
     let cells = simp (call .before .before .front .ensures, kernel .normalized-kernel .ensures, kernel .before .params .ensures) at (facts .1) in
-    let e = ends-added _ _ _ _ _ _ _ _ told _ added in
+    let e = ends-added _ _ _ _ _ _ _ _ _ told _ added in
     (simp (c .with-profile .ensures, cells) (sym e), cells ∙ sym (ap (λ x. cellsEnded x (a .cells .now)) e))
 
 same-length-2 : tie.Need-same-length-2
@@ -69,11 +69,11 @@ returns-4 c =
     let call = c .before .before .before .before .before in
     let kernel = call .before .before .before in
     let told = kernel .before .before .before .before .phase .given .1 in
-    let a = kernel .before .before .before .before .before .before .before .before .before .before .args in
+    let a = kernel .before .before .before .before .before .before .before .before .before .before .before .before .args in
     let facts = call .add-pile .ensures in
     let added = simp (call .before .before .front .ensures, kernel .normalized-kernel .ensures, kernel .before .params .ensures) at (sym (facts .0) ∙ ap pileAddedOf (c .before .added2 .given .1)) in
     let cells = simp (call .before .before .front .ensures, kernel .normalized-kernel .ensures, kernel .before .params .ensures) at (facts .1) in
-    let e = ends-refused _ _ _ _ _ _ _ _ told _ added in
+    let e = ends-refused _ _ _ _ _ _ _ _ _ told _ added in
     (sym e, cells ∙ cells-scored _ _ _ _ _ added ∙ sym (ap (λ x. cellsEnded x (a .cells .now)) e))
 
 pub end-pile-spec : {M : Type 1} → statement M

@@ -32,7 +32,7 @@ same-length-3 c = search needs
 returns : tie.Need-returns
 returns c =
     let end = c .before .before .before .before .before .before .before .before .before .before .before .before in
-    let a = end .before .before .before .before .before .before .before .before .args in
+    let a = end .before .before .before .before .before .before .before .before .before .before .args in
     let facts = end .end-pile .ensures in
     let e = simp (c .before .before .before .before .before .before .before .before .ended .given .1) at (sym (facts .0)) in
     let open-pile = c .before .before .before .before .open-pile .ensures in
@@ -50,7 +50,7 @@ same-length-6 c = search needs
 returns-2 : tie.Need-returns-2
 returns-2 c =
     let end = c .before .before .before .before .before in
-    let a = end .before .before .before .before .before .before .before .before .args in
+    let a = end .before .before .before .before .before .before .before .before .before .before .args in
     let facts = end .end-pile .ensures in
     let e = simp (c .before .ended2 .given .1) at (sym (facts .0)) in
     (sym (ap (λ x. andThen x (opened (a .w))) e), (sym (ap (λ x. fullThen x (a .full .now) (length (a .narrow .now))) e), (sym (ap (λ x. narrowThen x (length (a .full .now)) (a .narrow .now)) e), facts .1 ∙ ap (λ x. cellsEnded x (a .cells .now)) e ∙ sym (ap (λ x. cellsThen x (opened (a .w)) (a .cells .now)) e))))

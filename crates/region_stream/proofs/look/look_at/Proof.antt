@@ -1,5 +1,5 @@
 -- `look_at` meets its contract by the word's kind.
-use Rattle.region_stream.specs.Program.{look}
+use Rattle.region_stream.specs.Program.{lookBy}
 use Rattle.region_stream.specs.Stream.{cellsAfter, fullAfter, narrowAfter, pileAfter}
 use borrow.Author.Needs.{needs}
 use borrow.Author.Tests.{eq-eqb, ne-eqb}
@@ -23,7 +23,7 @@ same-length-4 : tie.Need-same-length-4
 same-length-4 c = search needs
 
 returns : tie.Need-returns
-unfolding look pileAfter fullAfter narrowAfter cellsAfter
+unfolding lookBy pileAfter fullAfter narrowAfter cellsAfter
 returns c =
     let call = c .before .before .before .before .before .before in
     let facts = call .locus-word .ensures in
@@ -36,7 +36,7 @@ same-length-5 : tie.Need-same-length-5
 same-length-5 c = search needs
 
 returns-2 : tie.Need-returns-2
-unfolding look pileAfter fullAfter narrowAfter cellsAfter
+unfolding lookBy pileAfter fullAfter narrowAfter cellsAfter
 returns-2 c =
     let call = c .before .before in
     let facts = call .observation-word .ensures in
@@ -58,7 +58,7 @@ same-length-9 : tie.Need-same-length-9
 same-length-9 c = search needs
 
 returns-3 : tie.Need-returns-3
-unfolding look pileAfter fullAfter narrowAfter cellsAfter
+unfolding lookBy pileAfter fullAfter narrowAfter cellsAfter
 returns-3 c =
     let call = c .before .before in
     let if3 = call .before .before .before .before .before in
@@ -69,7 +69,7 @@ setting-word-requires : tie.Need-setting-word-requires
 setting-word-requires c κs = search needs
 
 returns-4 : tie.Need-returns-4
-unfolding look pileAfter fullAfter narrowAfter cellsAfter
+unfolding lookBy pileAfter fullAfter narrowAfter cellsAfter
 returns-4 c =
     let if3 = c .before in
     simp (ne-eqb _ _ (if3 .before .before .if1 .left), ne-eqb _ _ (if3 .before .if2 .left), ne-eqb _ _ (if3 .if3 .left)) (c .setting-word .ensures _ _ _ _, (refl, (refl, (refl, refl))))

@@ -1,15 +1,14 @@
 -- `item` ends: it goes through its times once.
 use Prim.Native.Nat.{_-_}
-use Rattle.activity_profile.specs.Run.{step}
 use borrow.Author.Needs.{needs}
 use Rattle.replay_region.proofs.stream.item.Statement.{statement}
 use Rattle.replay_region.proofs.stream.item.Tie as tie
 
 abbrev Inv-loop : tie.InvT-loop
-Inv-loop words at pile₀ full₀ narrow₀ cells₀ times step s₀ raise₀ i₀ pile full narrow cells s raise i = Unit {0}
+Inv-loop words at pile₀ full₀ narrow₀ cells₀ table priors times step s₀ raise₀ i₀ pile full narrow cells s raise i = Unit {0}
 
 abbrev μ-loop : tie.MeasureT-loop
-μ-loop words at pile₀ full₀ narrow₀ cells₀ times step s₀ raise₀ i₀ pile full narrow cells s raise i = times - i
+μ-loop words at pile₀ full₀ narrow₀ cells₀ table priors times step s₀ raise₀ i₀ pile full narrow cells s raise i = times - i
 
 number-at-requires : tie.Need-number-at-requires Inv-loop μ-loop
 number-at-requires c κs = search needs

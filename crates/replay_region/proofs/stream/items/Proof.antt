@@ -5,10 +5,10 @@ use Rattle.replay_region.proofs.stream.items.Statement.{statement}
 use Rattle.replay_region.proofs.stream.items.Tie as tie
 
 abbrev Inv-loop : tie.InvT-loop
-Inv-loop words pile₀ full₀ narrow₀ cells₀ count s₀ at₀ i₀ pile full narrow cells s at i = Unit {0}
+Inv-loop words pile₀ full₀ narrow₀ cells₀ table priors count s₀ at₀ i₀ pile full narrow cells s at i = Unit {0}
 
 abbrev μ-loop : tie.MeasureT-loop
-μ-loop words pile₀ full₀ narrow₀ cells₀ count s₀ at₀ i₀ pile full narrow cells s at i = count - i
+μ-loop words pile₀ full₀ narrow₀ cells₀ table priors count s₀ at₀ i₀ pile full narrow cells s at i = count - i
 
 count-of-requires : tie.Need-count-of-requires Inv-loop μ-loop
 count-of-requires c κs = search needs

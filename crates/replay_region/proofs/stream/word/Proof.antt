@@ -1,14 +1,13 @@
 -- `word` ends: it counts its looks down.
-use Rattle.region_stream.specs.Program.{looks}
 use borrow.Author.Needs.{needs}
 use Rattle.replay_region.proofs.stream.word.Statement.{statement}
 use Rattle.replay_region.proofs.stream.word.Tie as tie
 
 abbrev Inv-loop : tie.InvT-loop
-Inv-loop words w pile₀ full₀ narrow₀ cells₀ before s₀ looks₀ pile full narrow cells s looks = Unit {0}
+Inv-loop words w pile₀ full₀ narrow₀ cells₀ table priors before s₀ looks₀ pile full narrow cells s looks = Unit {0}
 
 abbrev μ-loop : tie.MeasureT-loop
-μ-loop words w pile₀ full₀ narrow₀ cells₀ before s₀ looks₀ pile full narrow cells s looks = looks
+μ-loop words w pile₀ full₀ narrow₀ cells₀ table priors before s₀ looks₀ pile full narrow cells s looks = looks
 
 loop-holds : tie.Need-loop-holds Inv-loop μ-loop
 loop-holds c = tt

@@ -1,10 +1,10 @@
--- `activity_of` meets its contract: the array's front is lent.
+-- `activity_of_few` meets its contract: the array's front is lent.
+use borrow.Author.Needs.{needs}
+use lib.Seq.{length-take-le}
 use mathlib.Core.Path.{sym}
 use native.Mathlib.Omega.{arith}
-use lib.Seq.{length-take-le}
-use borrow.Author.Needs.{needs}
-use Rattle.activity_scoring.proofs.score.activity_of.Statement.{statement}
-use Rattle.activity_scoring.proofs.score.activity_of.Tie as tie
+use Rattle.activity_scoring.proofs.score.activity_of_few.Statement.{statement}
+use Rattle.activity_scoring.proofs.score.activity_of_few.Tie as tie
 
 cast-n : tie.Need-cast-n
 cast-n c = search needs
@@ -24,8 +24,8 @@ activity-in-requires c κs = length-take-le _ _ (omega arith)
 returns : tie.Need-returns
 returns c = search needs
 
-pub activity-of-spec : {M : Type 1} → statement M
-activity-of-spec =
+pub activity-of-few-spec : {M : Type 1} → statement M
+activity-of-few-spec =
     tie.close
     (tie.spec
     cast-n

@@ -1,0 +1,42 @@
+-- Places in the rows of the table, and the sums of a whole slice. Assumes nothing.
+use mathlib.Core.Path.{_≡_, _∙_}
+use mathlib.Core.Bool.{true}
+use mathlib.Core.List.{List}
+use Prim.Native.Nat.{ℕ, zero, suc, _+_, _*_, _/_, _<_, _≤_}
+use native.Mathlib.Nat.{div-lt-iff-lt-mul, mul-le-mul-right}
+use native.Mathlib.Omega.{arith}
+use lib.Dec.{leb}
+use lib.Ieee.{Float}
+use borrow.Author.Tests.{leb-true}
+use Rattle.lists.specs.Each.{each, tabulate}
+use Rattle.lists.specs.Folds.{each-tabulate}
+use Rattle.lists.specs.Loops.{foldl}
+use Rattle.lists.specs.Tests.{and-left, and-right}
+use Rattle.genotype_likelihoods.specs.declared.HaplotypeCallerActivityScoringParams.{HaplotypeCallerActivityScoringParams}
+use Rattle.genotype_likelihoods.specs.Likelihoods.{counted, less}
+use Rattle.contribution_table.specs.Table.{ploidyOf, rowLength, tableLength, fits, sumAt, shareOf, likelihoodAt}
+
+-- a place before the end of the rows is in one of them
+pub row-below : (j n : ℕ) → 1 ≤ n → j < 512 * n → j / n < 512
+row-below j n h k = div-lt-iff-lt-mul {k = n} {x = j} {y = 512} h .1 k
+
+-- four entries from i on are in their row
+pub in-row : (r n i : ℕ) → r ≤ 511 → i + 4 ≤ n → r * n + i + 4 ≤ 512 * n
+in-row r n i h k = omega (arith, mul-le-mul-right n h)
+
+-- a row and an entry of it are small numbers
+pub row-small : (r n : ℕ) → r ≤ 511 → n ≤ 256 → r * n ≤ 511 * 256
+row-small r n h k = omega (arith, mul-le-mul-right n h)
+
+pub fits-row : (cells : ℕ) (s : HaplotypeCallerActivityScoringParams) (n : ℕ) → fits cells s n ≡ true → n ≤ rowLength (ploidyOf s)
+fits-row cells s n e = leb-true _ _ (and-left (leb n (rowLength (ploidyOf s))) _ e)
+
+pub fits-table : (cells : ℕ) (s : HaplotypeCallerActivityScoringParams) (n : ℕ) → fits cells s n ≡ true → tableLength (ploidyOf s) ≤ cells
+fits-table cells s n e = leb-true _ _ (and-right (leb n (rowLength (ploidyOf s))) _ e)
+
+-- the sums less the share of k words, k being the words counted where there is a genotype
+pub sums-less-share : (table : List Float) (s : HaplotypeCallerActivityScoringParams) (words : List ℕ) (n k : ℕ) → (0 < n → k ≡ foldl (counted s) 0 words)
+    → each (less (shareOf table s k)) (tabulate (sumAt table s words) n) ≡ tabulate (likelihoodAt table s words (foldl (counted s) 0 words)) n
+unfolding tabulate
+sums-less-share table s words zero k h = each-tabulate (less (shareOf table s k)) (sumAt table s words) 0
+sums-less-share table s words (suc n) k h = each-tabulate (less (shareOf table s k)) (sumAt table s words) (suc n) ∙ rw (h (omega arith))

@@ -1,0 +1,21 @@
+// The likelihoods of a pile by a table. What an observation adds to the likelihood of a genotype depends on its quality, whether it is alternate, the
+// genotype and the settings alone: worked out once for the settings, a pile is a chain of additions. The answers are genotype_likelihoods' own, bit
+// for bit, for every table that `fill_contribution_table` filled. No public function has a `requires`.
+mod fill;
+mod likelihoods;
+
+pub use fill::fill_contribution_table;
+pub use fill::table_length;
+pub use likelihoods::calc_ref_vs_any_log10_genotype_likelihoods_by_table;
+
+// A row for each quality, plain and alternate.
+pub const ROWS: usize = 512;
+
+// The sums of four genotypes over some words, and how many of the words were not skipped.
+pub struct Sums {
+    pub count: u64,
+    pub a: f64,
+    pub b: f64,
+    pub c: f64,
+    pub d: f64,
+}
