@@ -1,0 +1,230 @@
+// Making a profile, its kernel, adds and pops.
+use crate::EMPTY;
+use crate::HELD;
+use crate::RECORD;
+use crate::REGION;
+use activity_profile::ActivityEvidence;
+use activity_profile::ActivityProfileRegion;
+use activity_profile::ActivityProfileState;
+use activity_profile::Added;
+use activity_profile::BandPassActivityProfile;
+use activity_profile::Made;
+use activity_profile::Popped;
+use band_pass_kernel::BandPassActivityProfileParams;
+use genome::GenomePosition;
+ghost use mathlib.Core.Path.{_≡_};
+ghost use mathlib.Core.Bool.{cond};
+ghost use lib.Dec.{eqb};
+ghost use lib.ListN.{length, take, getD};
+ghost use Rattle.band_pass_kernel.specs.Kernel.{band};
+ghost use Rattle.activity_profile.specs.Making.{making, fullAfterMaking, narrowAfterMaking};
+ghost use Rattle.activity_profile.specs.Add.{addAnswer, addCells};
+ghost use Rattle.activity_profile.specs.Pop.{popAnswer, popCells};
+ghost use Rattle.region_picker.specs.Part.{recordOf, profileOf, regionFields, evidenceFrom, stateFrom, paramsFrom, outcomeNumber, outcomeWritten, addNumber, addRecord, popNumber, popRecord, popRegion, copied, copiedLength};
+
+// Makes an empty profile of a contig: its numbers are written to `profile`, and its kernel stands in one of the two buffers. Answers 0, or the number of a
+// refusal, which writes nothing.
+#[no_mangle]
+pub extern "C" fn region_picker_make(
+    profile: &mut [u32; RECORD],
+    contig: u32,
+    contig_len: u32,
+    max_prob_propagation_distance: u32,
+    active_prob_threshold: f64,
+    max_filter_size: u32,
+    sigma: f64,
+    adaptive_filter_size: bool,
+    full: &mut [f64],
+    narrow: &mut [f64],
+) -> u32
+    ensures { λ r. ⌜ r ≡ outcomeNumber (making contig «contig_len» (paramsFrom «max_prob_propagation_distance» «active_prob_threshold» «max_filter_size» sigma «adaptive_filter_size») (length (now (full .entry))) (length (now (narrow .entry)))) ⌝ }
+    ensures { λ _. ⌜ now (profile .exit) ≡ outcomeWritten recordOf (making contig «contig_len» (paramsFrom «max_prob_propagation_distance» «active_prob_threshold» «max_filter_size» sigma «adaptive_filter_size») (length (now (full .entry))) (length (now (narrow .entry)))) (now (profile .entry)) ⌝ }
+    ensures { λ _. ⌜ now (full .exit) ≡ fullAfterMaking «contig_len» (paramsFrom «max_prob_propagation_distance» «active_prob_threshold» «max_filter_size» sigma «adaptive_filter_size») (now (full .entry)) (length (now (narrow .entry))) ⌝ }
+    ensures { λ _. ⌜ now (narrow .exit) ≡ narrowAfterMaking «contig_len» (paramsFrom «max_prob_propagation_distance» «active_prob_threshold» «max_filter_size» sigma «adaptive_filter_size») (length (now (full .entry))) (now (narrow .entry)) ⌝ }
+{
+    let params = BandPassActivityProfileParams {
+        max_prob_propagation_distance,
+        active_prob_threshold,
+        max_filter_size,
+        sigma,
+        adaptive_filter_size,
+    };
+    let made = BandPassActivityProfile::new(contig, contig_len, params, full, narrow);
+    match made {
+        Made::Profile(p) => {
+            *profile = record_of(p);
+            0
+        }
+        Made::Refused(why) => why.number(),
+    }
+}
+
+// Copies the kernel of the profile that a making left in its buffers to the front of `kernel`, and answers its length, 2F + 1. A slice that is too short is
+// left as it is, and the answer is 0.
+#[no_mangle]
+pub extern "C" fn region_picker_kernel<'a>(
+    kernel: &mut [f64],
+    filter_size: u32,
+    max_filter_size: u32,
+    full: &'a [f64],
+    narrow: &'a [f64],
+) -> usize
+    ensures { λ r. ⌜ r ≡ copiedLength (length (take (band «filter_size») (cond (eqb «filter_size» «max_filter_size») (now (full .entry)) (now (narrow .entry))))) (length (now (kernel .entry))) ⌝ }
+    ensures { λ _. ⌜ now (kernel .exit) ≡ copied (take (band «filter_size») (cond (eqb «filter_size» «max_filter_size») (now (full .entry)) (now (narrow .entry)))) (now (kernel .entry)) ⌝ }
+{
+    let params = BandPassActivityProfileParams {
+        max_prob_propagation_distance: 0,
+        active_prob_threshold: 0.0,
+        max_filter_size,
+        sigma: 1.0,
+        adaptive_filter_size: false,
+    };
+    copy(kernel, params.normalized_kernel(filter_size, full, narrow))
+}
+
+// Adds the next locus. Answers 0, or the number of a refusal, which writes nothing.
+#[no_mangle]
+pub extern "C" fn region_picker_add(
+    profile: &mut [u32; RECORD],
+    active_prob_threshold: f64,
+    contig: u32,
+    pos: u32,
+    active_prob: f64,
+    original_active_prob: f64,
+    has_clips: bool,
+    clip_bases: u32,
+    kernel: &[f64],
+    cells: &mut [f64],
+) -> u32
+    ensures { λ r. ⌜ r ≡ addNumber (addAnswer (profileOf (now (profile .entry)) «active_prob_threshold») (now (cells .entry)) (now (kernel .entry)) (stateFrom contig pos «active_prob» «original_active_prob» «has_clips» «clip_bases»)) ⌝ }
+    ensures { λ _. ⌜ now (profile .exit) ≡ addRecord (addAnswer (profileOf (now (profile .entry)) «active_prob_threshold») (now (cells .entry)) (now (kernel .entry)) (stateFrom contig pos «active_prob» «original_active_prob» «has_clips» «clip_bases»)) (now (profile .entry)) ⌝ }
+    ensures { λ _. ⌜ now (cells .exit) ≡ addCells (profileOf (now (profile .entry)) «active_prob_threshold») (now (cells .entry)) (now (kernel .entry)) (stateFrom contig pos «active_prob» «original_active_prob» «has_clips» «clip_bases») ⌝ }
+{
+    let p = profile_of(profile, active_prob_threshold);
+    let evidence = evidence_from(has_clips, clip_bases);
+    let state = ActivityProfileState {
+        contig,
+        pos: GenomePosition(pos),
+        active_prob,
+        original_active_prob,
+        evidence,
+    };
+    let added = p.add(state, kernel, cells);
+    match added {
+        Added::Accepted(next) => {
+            *profile = record_of(next);
+            0
+        }
+        Added::Refused(why, _) => why.number(),
+    }
+}
+
+// Pops the next region that is ready. Answers 0 with the region written; `HELD` or `EMPTY`; or the number of a refusal, which writes nothing.
+#[no_mangle]
+pub extern "C" fn region_picker_pop(
+    profile: &mut [u32; RECORD],
+    active_prob_threshold: f64,
+    assembly_region_extension: u32,
+    min_region_size: u32,
+    max_region_size: u32,
+    forced: bool,
+    cells: &mut [f64],
+    region: &mut [u32; REGION],
+) -> u32
+    ensures { λ r. ⌜ r ≡ popNumber (popAnswer (profileOf (now (profile .entry)) «active_prob_threshold») (now (cells .entry)) «assembly_region_extension» «min_region_size» «max_region_size» forced) ⌝ }
+    ensures { λ _. ⌜ now (profile .exit) ≡ popRecord (popAnswer (profileOf (now (profile .entry)) «active_prob_threshold») (now (cells .entry)) «assembly_region_extension» «min_region_size» «max_region_size» forced) (now (profile .entry)) ⌝ }
+    ensures { λ _. ⌜ now (cells .exit) ≡ popCells (profileOf (now (profile .entry)) «active_prob_threshold») (now (cells .entry)) «min_region_size» «max_region_size» forced ⌝ }
+    ensures { λ _. ⌜ now (region .exit) ≡ popRegion (popAnswer (profileOf (now (profile .entry)) «active_prob_threshold») (now (cells .entry)) «assembly_region_extension» «min_region_size» «max_region_size» forced) (now (region .entry)) ⌝ }
+{
+    let p = profile_of(profile, active_prob_threshold);
+    let popped = p.try_pop_next_ready_region(
+        cells,
+        assembly_region_extension,
+        min_region_size,
+        max_region_size,
+        forced,
+    );
+    match popped {
+        Popped::Ready(r, next) => {
+            *region = region_fields(r);
+            *profile = record_of(next);
+            0
+        }
+        Popped::Held(next) => {
+            *profile = record_of(next);
+            HELD
+        }
+        Popped::Empty(next) => {
+            *profile = record_of(next);
+            EMPTY
+        }
+        Popped::Refused(why, _) => why.number(),
+    }
+}
+
+fn record_of(p: BandPassActivityProfile) -> [u32; RECORD]
+    ensures { λ r. ⌜ r ≡ recordOf p ⌝ }
+{
+    [
+        p.contig,
+        p.contig_len,
+        p.max_prob_propagation_distance,
+        p.filter_size,
+        p.region_start,
+        p.last_input_pos,
+        p.count,
+    ]
+}
+
+fn profile_of(profile: &[u32; RECORD], active_prob_threshold: f64) -> BandPassActivityProfile
+    ensures { λ r. ⌜ r ≡ profileOf (now (profile .entry)) «active_prob_threshold» ⌝ }
+{
+    BandPassActivityProfile {
+        contig: profile[0],
+        contig_len: profile[1],
+        max_prob_propagation_distance: profile[2],
+        active_prob_threshold,
+        filter_size: profile[3],
+        region_start: profile[4],
+        last_input_pos: profile[5],
+        count: profile[6],
+    }
+}
+
+fn region_fields(r: ActivityProfileRegion) -> [u32; REGION]
+    ensures { λ q. ⌜ q ≡ regionFields r ⌝ }
+{
+    [
+        r.contig,
+        r.start,
+        r.end,
+        r.is_active as u32,
+        r.padded_start,
+        r.padded_end,
+        r.extension,
+    ]
+}
+
+fn evidence_from(has_clips: bool, clip_bases: u32) -> ActivityEvidence
+    ensures { λ r. ⌜ r ≡ evidenceFrom «has_clips» «clip_bases» ⌝ }
+{
+    if has_clips {
+        return ActivityEvidence::HighQualitySoftClips { clip_bases };
+    }
+    ActivityEvidence::Plain
+}
+
+fn copy(to: &mut [f64], from: &[f64]) -> usize
+    ensures { λ r. ⌜ r ≡ copiedLength (length (now (from .entry))) (length (now (to .entry))) ⌝ }
+    ensures { λ _. ⌜ now (to .exit) ≡ copied (now (from .entry)) (now (to .entry)) ⌝ }
+{
+    if to.len() < from.len() {
+        return 0;
+    }
+    let mut i = 0;
+    while i < from.len() {
+        to[i] = from[i];
+        i += 1;
+    }
+    from.len()
+}

@@ -1,0 +1,130 @@
+// Scoring a pile by tables, and the count of soft-clipped bases.
+use activity_profile::ActivityEvidence;
+use activity_scoring::Scored;
+use genome::GenomePosition;
+use genome::Ploidy;
+use genotype_likelihoods::HaplotypeCallerActivityScoringParams;
+use hq_soft_clip::SoftClips;
+ghost use mathlib.Core.Path.{_≡_};
+ghost use Rattle.contribution_table.specs.Table.{tableLength, filled};
+ghost use Rattle.activity_scoring.specs.Tables.{priorsFilled, scoreBy};
+ghost use Rattle.hq_soft_clip.specs.SoftClips.{clipCount};
+ghost use Rattle.region_picker.specs.Part.{scoringFrom, activityFields, evidenceFields, stateEvidence, outcomeNumber, outcomeWritten};
+
+// How many numbers the table of a ploidy has.
+#[no_mangle]
+pub extern "C" fn region_picker_table_length(ploidy: u8) -> usize
+    ensures { λ r. ⌜ r ≡ tableLength ploidy ⌝ }
+{
+    contribution_table::table_length(Ploidy(ploidy))
+}
+
+// Fills the tables that scoring is handed for these settings: `table`, of `region_picker_table_length` numbers or more, and `priors`, of ploidy + 1. To be
+// called once, and again when a setting changes.
+#[no_mangle]
+pub extern "C" fn region_picker_fill_tables(
+    table: &mut [f64],
+    priors: &mut [f64],
+    min_base_quality_score: u8,
+    sample_ploidy: u8,
+    snp_heterozygosity: f64,
+    heterozygosity_standard_deviation: f64,
+    ref_model_deletion_qual: u8,
+    active_region_alt_multiplier: f64,
+    flow_based_reference_model: bool,
+)
+    ensures { λ _. ⌜ now (table .exit) ≡ filled (scoringFrom «min_base_quality_score» «sample_ploidy» «snp_heterozygosity» «heterozygosity_standard_deviation» «ref_model_deletion_qual» «active_region_alt_multiplier» «flow_based_reference_model») (now (table .entry)) ⌝ }
+    ensures { λ _. ⌜ now (priors .exit) ≡ priorsFilled (scoringFrom «min_base_quality_score» «sample_ploidy» «snp_heterozygosity» «heterozygosity_standard_deviation» «ref_model_deletion_qual» «active_region_alt_multiplier» «flow_based_reference_model») (now (priors .entry)) ⌝ }
+{
+    let params = HaplotypeCallerActivityScoringParams {
+        min_base_quality_score,
+        sample_ploidy: Ploidy(sample_ploidy),
+        snp_heterozygosity,
+        heterozygosity_standard_deviation,
+        ref_model_deletion_qual,
+        active_region_alt_multiplier,
+        flow_based_reference_model,
+    };
+    contribution_table::fill_contribution_table(table, params);
+    genotype_posterior::fill_log10_priors(
+        priors,
+        snp_heterozygosity,
+        heterozygosity_standard_deviation,
+    );
+}
+
+// Scores a pile of observation words. Answers 0 with the probability and the original probability in `activity`, and in `evidence` 1 and the clip
+// count, or 0 and 0 for plain evidence; or the number of a refusal, which writes nothing. The score is the same without tables (slices of length 0), only
+// slower.
+#[no_mangle]
+pub extern "C" fn region_picker_score(
+    pos: u32,
+    pile: &[u32],
+    table: &[f64],
+    priors: &[f64],
+    min_base_quality_score: u8,
+    sample_ploidy: u8,
+    snp_heterozygosity: f64,
+    heterozygosity_standard_deviation: f64,
+    ref_model_deletion_qual: u8,
+    active_region_alt_multiplier: f64,
+    flow_based_reference_model: bool,
+    activity: &mut [f64; 2],
+    evidence: &mut [u32; 2],
+) -> u32
+    ensures { λ r. ⌜ r ≡ outcomeNumber (scoreBy (now (table .entry)) (now (priors .entry)) 0 (record { 0 = pos }) (now (pile .entry)) (scoringFrom «min_base_quality_score» «sample_ploidy» «snp_heterozygosity» «heterozygosity_standard_deviation» «ref_model_deletion_qual» «active_region_alt_multiplier» «flow_based_reference_model»)) ⌝ }
+    ensures { λ _. ⌜ now (activity .exit) ≡ outcomeWritten activityFields (scoreBy (now (table .entry)) (now (priors .entry)) 0 (record { 0 = pos }) (now (pile .entry)) (scoringFrom «min_base_quality_score» «sample_ploidy» «snp_heterozygosity» «heterozygosity_standard_deviation» «ref_model_deletion_qual» «active_region_alt_multiplier» «flow_based_reference_model»)) (now (activity .entry)) ⌝ }
+    ensures { λ _. ⌜ now (evidence .exit) ≡ outcomeWritten stateEvidence (scoreBy (now (table .entry)) (now (priors .entry)) 0 (record { 0 = pos }) (now (pile .entry)) (scoringFrom «min_base_quality_score» «sample_ploidy» «snp_heterozygosity» «heterozygosity_standard_deviation» «ref_model_deletion_qual» «active_region_alt_multiplier» «flow_based_reference_model»)) (now (evidence .entry)) ⌝ }
+{
+    let params = HaplotypeCallerActivityScoringParams {
+        min_base_quality_score,
+        sample_ploidy: Ploidy(sample_ploidy),
+        snp_heterozygosity,
+        heterozygosity_standard_deviation,
+        ref_model_deletion_qual,
+        active_region_alt_multiplier,
+        flow_based_reference_model,
+    };
+    let scored = activity_scoring::haplotype_caller_activity_profile_state_by_tables(
+        0,
+        GenomePosition(pos),
+        pile,
+        params,
+        table,
+        priors,
+    );
+    match scored {
+        Scored::Score(s) => {
+            *activity = [s.active_prob, s.original_active_prob];
+            let e = s.evidence;
+            *evidence = evidence_fields(e);
+            0
+        }
+        Scored::Refused(why) => why.number(),
+    }
+}
+
+fn evidence_fields(e: ActivityEvidence) -> [u32; 2]
+    ensures { λ r. ⌜ r ≡ evidenceFields e ⌝ }
+{
+    match e {
+        ActivityEvidence::Plain => [0, 0],
+        ActivityEvidence::HighQualitySoftClips { clip_bases } => [1, clip_bases],
+    }
+}
+
+// Counts the soft-clipped bases of a quality above 28 along CIGAR words. Answers 0 with the count written, or the number of a refusal, which writes nothing.
+#[no_mangle]
+pub extern "C" fn region_picker_count_clips(cigar: &[u32], qualities: &[u8], count: &mut u64) -> u32
+    ensures { λ r. ⌜ r ≡ outcomeNumber (clipCount (now (cigar .entry)) (now (qualities .entry))) ⌝ }
+    ensures { λ _. ⌜ now (count .exit) ≡ outcomeWritten (λ n. n) (clipCount (now (cigar .entry)) (now (qualities .entry))) (now (count .entry)) ⌝ }
+{
+    let counted = hq_soft_clip::count_high_quality_soft_clip_bases_rcm(cigar, qualities);
+    match counted {
+        SoftClips::Count(n) => {
+            *count = n;
+            0
+        }
+        SoftClips::Refused(why) => why.number(),
+    }
+}

@@ -1,0 +1,23 @@
+#!/usr/bin/env bash
+# Builds the part, and the examples in C and in Rust over it, and runs both and the region program on the same words: all three print the same.
+# examples.sh [WORDS ...]; without arguments the samples, a stream that is refused, and one that ends within a word.
+set -e
+cd "$(dirname "$0")/.."
+rt staticlib region_picker > target/staticlib.log 2>&1 || { cat target/staticlib.log; exit 1; }
+rt check region > target/region.log 2>&1 || { cat target/region.log; exit 1; }
+gcc -std=c99 -O2 -Wall -Wextra -pedantic -o target/regions part/examples/c/regions.c target/staticlib/libregion_picker.a
+cargo build --quiet --release --offline --manifest-path part/examples/rust/Cargo.toml
+words=("$@")
+if [ ${#words[@]} -eq 0 ]; then
+    printf '\001\000\000\000\001\000\000\200\003\000\000\000\004\000\000\000\005\000\000\000' > target/refused.words
+    printf '\001\000\000\000\001\000' > target/remainder.words
+    words=(samples/*.words target/refused.words target/remainder.words)
+fi
+for file in "${words[@]}"; do
+    target/bin/region < "$file" > target/region.lines
+    for program in target/regions part/examples/rust/target/release/regions; do
+        "$program" < "$file" > target/example.lines
+        cmp target/region.lines target/example.lines || { echo "$program differs from region on $file"; exit 1; }
+    done
+    echo "$file: $(wc -l < target/region.lines) lines, the same from region, C and Rust"
+done

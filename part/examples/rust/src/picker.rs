@@ -1,0 +1,98 @@
+//! The part's functions (region_picker.h) behind a profile and a scorer that own what they lend.
+
+#[rustfmt::skip]
+extern "C" {
+    fn region_picker_make(profile: *mut u32, contig: u32, contig_length: u32, distance: u32, threshold: f64, max_filter: u32, sigma: f64, adaptive: bool, full: *mut f64, full_length: usize, narrow: *mut f64, narrow_length: usize) -> u32;
+    fn region_picker_kernel(kernel: *mut f64, kernel_length: usize, filter: u32, max_filter: u32, full: *const f64, full_length: usize, narrow: *const f64, narrow_length: usize) -> usize;
+    fn region_picker_add(profile: *mut u32, threshold: f64, contig: u32, position: u32, active_prob: f64, original: f64, has_clips: bool, clip_bases: u32, kernel: *const f64, kernel_length: usize, cells: *mut f64, cells_length: usize) -> u32;
+    fn region_picker_pop(profile: *mut u32, threshold: f64, extension: u32, min: u32, max: u32, forced: bool, cells: *mut f64, cells_length: usize, region: *mut u32) -> u32;
+    fn region_picker_table_length(ploidy: u8) -> usize;
+    fn region_picker_fill_tables(table: *mut f64, table_length: usize, priors: *mut f64, priors_length: usize, min_qual: u8, ploidy: u8, heterozygosity: f64, deviation: f64, deletion_qual: u8, alt_multiplier: f64, flow: bool);
+    fn region_picker_score(position: u32, pile: *const u32, pile_length: usize, table: *const f64, table_length: usize, priors: *const f64, priors_length: usize, min_qual: u8, ploidy: u8, heterozygosity: f64, deviation: f64, deletion_qual: u8, alt_multiplier: f64, flow: bool, activity: *mut f64, evidence: *mut u32) -> u32;
+}
+
+/// A refusal's number.
+pub type Refusal = u32;
+
+const PLOIDY: u8 = 2;
+const THRESHOLD: f64 = 0.002;
+const HELD: u32 = 100;
+const EMPTY: u32 = 101;
+
+/// Scoring with its usual settings.
+pub struct Scorer {
+    table: Vec<f64>,
+    priors: Vec<f64>,
+}
+
+/// What an add takes of a score.
+pub struct Score {
+    activity: [f64; 2],
+    evidence: [u32; 2],
+}
+
+impl Scorer {
+    pub fn new() -> Self {
+        let mut table = vec![0.0; unsafe { region_picker_table_length(PLOIDY) }];
+        let mut priors = vec![0.0; usize::from(PLOIDY) + 1];
+        let (t, p) = (table.as_mut_ptr(), priors.as_mut_ptr());
+        unsafe { region_picker_fill_tables(t, table.len(), p, priors.len(), 10, PLOIDY, 0.001, 0.01, 30, 1.0, false) };
+        Self { table, priors }
+    }
+
+    pub fn score(&self, position: u32, pile: &[u32]) -> Result<Score, Refusal> {
+        let mut score = Score { activity: [0.0; 2], evidence: [0; 2] };
+        let (table, priors) = (&self.table, &self.priors);
+        let (activity, evidence) = (score.activity.as_mut_ptr(), score.evidence.as_mut_ptr());
+        #[rustfmt::skip]
+        let refusal = unsafe { region_picker_score(position, pile.as_ptr(), pile.len(), table.as_ptr(), table.len(), priors.as_ptr(), priors.len(), 10, PLOIDY, 0.001, 0.01, 30, 1.0, false, activity, evidence) };
+        answer(refusal).map(|()| score)
+    }
+}
+
+pub struct Profile {
+    numbers: [u32; 7],
+    kernel: Vec<f64>,
+    cells: Vec<f64>,
+}
+
+impl Profile {
+    pub fn new(contig_length: u32, distance: u32, max_filter: u32, cells: usize) -> Result<Self, Refusal> {
+        let n = 2 * max_filter as usize + 1;
+        let mut numbers = [0; 7];
+        let (mut full, mut narrow, mut kernel) = (vec![0.0; n], vec![0.0; n], vec![0.0; n]);
+        #[rustfmt::skip]
+        answer(unsafe { region_picker_make(numbers.as_mut_ptr(), 0, contig_length, distance, THRESHOLD, max_filter, 17.0, true, full.as_mut_ptr(), n, narrow.as_mut_ptr(), n) })?;
+        let filled = unsafe { region_picker_kernel(kernel.as_mut_ptr(), n, numbers[3], max_filter, full.as_ptr(), n, narrow.as_ptr(), n) };
+        kernel.truncate(filled);
+        Ok(Self { numbers, kernel, cells: vec![0.0; cells] })
+    }
+
+    pub fn add(&mut self, position: u32, score: &Score) -> Result<(), Refusal> {
+        let ([probability, original], [clips, count]) = (score.activity, score.evidence);
+        let (kernel, cells) = (&self.kernel, &mut self.cells);
+        #[rustfmt::skip]
+        let refusal = unsafe { region_picker_add(self.numbers.as_mut_ptr(), THRESHOLD, 0, position, probability, original, clips == 1, count, kernel.as_ptr(), kernel.len(), cells.as_mut_ptr(), cells.len()) };
+        answer(refusal)
+    }
+
+    /// A region's contig, start, end, 1 where it is active, padded start, padded end and extension; none where none is ready.
+    pub fn pop(&mut self, extension: u32, min: u32, max: u32, forced: bool) -> Result<Option<[u32; 7]>, Refusal> {
+        let mut region = [0; 7];
+        let cells = &mut self.cells;
+        #[rustfmt::skip]
+        let popped = unsafe { region_picker_pop(self.numbers.as_mut_ptr(), THRESHOLD, extension, min, max, forced, cells.as_mut_ptr(), cells.len(), region.as_mut_ptr()) };
+        match popped {
+            HELD | EMPTY => Ok(None),
+            n => answer(n).map(|()| Some(region)),
+        }
+    }
+}
+
+fn answer(number: u32) -> Result<(), Refusal> {
+    if number == 0 {
+        Ok(())
+    } else {
+        Err(number)
+    }
+}

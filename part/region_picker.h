@@ -1,0 +1,104 @@
+/* The region picker as a part: link libregion_picker.a, which `rt staticlib region_picker` writes to target/staticlib.
+ *
+ * Every function is proved to do what is said here, for whatever numbers it is handed (crates/region_picker; document 01 is docs/01-scope.md).
+ *
+ * Memory. The part allocates nothing, keeps nothing between calls and starts no threads. You own all of it: what a call writes is named below, and
+ * nothing else is written. A pointer is to as many elements as the length behind it says, or to the number in its brackets; no two pointers of one
+ * call may overlap, except two that are only read. A pointer is never null; of a length of 0 it is not followed.
+ *
+ * Answers. 0 is success. 1 to 11 are document 01's refusals; a refused call writes nothing. docs/MAKERS.md says what to do about each:
+ *   1 a setting, or a position given to scoring, outside its range     7 a position that is not on the contig
+ *   2 a kernel buffer that is too short                                8 a probability that is not in 0.0 to 1.0
+ *   3 a word that is no observation; an unknown CIGAR operation        9 a position that is not the one after the last
+ *   4 a pile of more than 16,384 words                                10 too few cells
+ *   5 a record that is broken, or a kernel that is not 2F + 1 long    11 a region size of 0
+ *   6 a locus of another contig
+ */
+#ifndef REGION_PICKER_H
+#define REGION_PICKER_H
+
+#include <stdbool.h>
+#include <stddef.h>
+#include <stdint.h>
+
+#ifdef __cplusplus
+extern "C" {
+#endif
+
+/* A pop that hands out no region, and is not refused, answers one of these. */
+#define REGION_PICKER_HELD 100u  /* the next region is not decided yet: add more loci, or force */
+#define REGION_PICKER_EMPTY 101u /* nothing is waiting */
+
+/* A profile is seven numbers, in this order, and the threshold, which you keep beside them. Each call gets them and the cells as the one before left them. */
+enum {
+    REGION_PICKER_CONTIG,
+    REGION_PICKER_CONTIG_LENGTH,
+    REGION_PICKER_DISTANCE,
+    REGION_PICKER_FILTER_SIZE, /* F: the kernel is 2F + 1 long */
+    REGION_PICKER_REGION_START,
+    REGION_PICKER_LAST_INPUT,
+    REGION_PICKER_COUNT, /* how many cells are in use */
+    REGION_PICKER_PROFILE /* how many numbers these are */
+};
+
+/* A region is seven numbers. Positions count from 1, and both ends are inside. */
+enum {
+    REGION_PICKER_REGION_CONTIG,
+    REGION_PICKER_START,
+    REGION_PICKER_END,
+    REGION_PICKER_IS_ACTIVE, /* 1 or 0 */
+    REGION_PICKER_PADDED_START,
+    REGION_PICKER_PADDED_END,
+    REGION_PICKER_EXTENSION,
+    REGION_PICKER_REGION /* how many numbers these are */
+};
+
+/* Makes an empty profile. contig_length 1 to 1,073,741,823; max_prob_propagation_distance 0 to 1,000,000, and at least 1 if no locus may be lost;
+ * active_prob_threshold 0.0 to 1.0; max_filter_size 0 to 500; sigma 1/64 to 4,096. `full` and `narrow` have room for 2 * max_filter_size + 1 doubles each; the
+ * kernel is left in one of them. Refuses 1, then 2. */
+uint32_t region_picker_make(uint32_t profile[REGION_PICKER_PROFILE], uint32_t contig, uint32_t contig_length, uint32_t max_prob_propagation_distance,
+                            double active_prob_threshold, uint32_t max_filter_size, double sigma, bool adaptive_filter_size, double *full, size_t full_length,
+                            double *narrow, size_t narrow_length);
+
+/* Copies the kernel that a making left to the front of `kernel`, and answers its length, 2F + 1. Where `kernel` is shorter than that, nothing is written and
+ * the answer is 0. The two buffers are free after that. */
+size_t region_picker_kernel(double *kernel, size_t kernel_length, uint32_t filter_size, uint32_t max_filter_size, const double *full, size_t full_length,
+                            const double *narrow, size_t narrow_length);
+
+/* Adds the locus after the last, or any locus to an empty profile. active_prob 0.0 to 1.0; with has_clips, clip_bases is the count of clipped bases that the
+ * activity is spread by. Writes the profile and the cells. Refuses 5, 6, 7, 8, 9, 10. */
+uint32_t region_picker_add(uint32_t profile[REGION_PICKER_PROFILE], double active_prob_threshold, uint32_t contig, uint32_t position, double active_prob,
+                           double original_active_prob, bool has_clips, uint32_t clip_bases, const double *kernel, size_t kernel_length, double *cells,
+                           size_t cells_length);
+
+/* Pops the next region. Writes `region` on 0 alone, and then the profile and the cells too. Forced, it never answers held. Refuses 5, then 11. */
+uint32_t region_picker_pop(uint32_t profile[REGION_PICKER_PROFILE], double active_prob_threshold, uint32_t assembly_region_extension, uint32_t min_region_size,
+                           uint32_t max_region_size, bool forced, double *cells, size_t cells_length, uint32_t region[REGION_PICKER_REGION]);
+
+/* How many doubles the table of a ploidy has: 512 * (ploidy / 4 * 4 + 4) + 1, so 2,049 for ploidy 1 to 3. */
+size_t region_picker_table_length(uint8_t sample_ploidy);
+
+/* Fills the tables that scoring reads: `table`, of region_picker_table_length doubles, and `priors`, of sample_ploidy + 1. Once, and again whenever a setting of
+ * scoring changes; it takes a millisecond or so. A table that is too short is left as it is. The ranges are those of region_picker_score. */
+void region_picker_fill_tables(double *table, size_t table_length, double *priors, size_t priors_length, uint8_t min_base_quality_score, uint8_t sample_ploidy,
+                               double snp_heterozygosity, double heterozygosity_standard_deviation, uint8_t ref_model_deletion_qual,
+                               double active_region_alt_multiplier, bool flow_based_reference_model);
+
+/* Scores the pile of a position: observation words, as README.md has them. Settings, with the usual choice: min_base_quality_score 1 to 254 (10), sample_ploidy 1
+ * to 100 (2), snp_heterozygosity 0.000001 to 0.5 (0.001), heterozygosity_standard_deviation 0.0001 to 1 (0.01), ref_model_deletion_qual 1 to 254 (30),
+ * active_region_alt_multiplier 1/1024 to 1,024 (1), flow_based_reference_model (false). The tables are those that region_picker_fill_tables filled for the same
+ * settings; tables of another length are not looked at, and the score is then worked out without them, which takes longer and gives the same bits. Writes to
+ * `activity` the probability and the original probability, and to `evidence` 1 and the clip count, or 0 and 0: what an add takes. Refuses 1, 4, 3. */
+uint32_t region_picker_score(uint32_t position, const uint32_t *pile, size_t pile_length, const double *table, size_t table_length, const double *priors,
+                             size_t priors_length, uint8_t min_base_quality_score, uint8_t sample_ploidy, double snp_heterozygosity,
+                             double heterozygosity_standard_deviation, uint8_t ref_model_deletion_qual, double active_region_alt_multiplier,
+                             bool flow_based_reference_model, double activity[2], uint32_t evidence[2]);
+
+/* Counts the soft-clipped bases of a quality above 28 along a read: CIGAR words as BAM stores them, and a quality for each base. Refuses 3. */
+uint32_t region_picker_count_clips(const uint32_t *cigar, size_t cigar_length, const uint8_t *qualities, size_t qualities_length, uint64_t *count);
+
+#ifdef __cplusplus
+}
+#endif
+
+#endif
