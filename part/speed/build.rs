@@ -1,0 +1,6 @@
+fn main() {
+    let root = std::env::var("CARGO_MANIFEST_DIR").expect("cargo sets it");
+    println!("cargo:rustc-link-search=native={root}/../../target/staticlib");
+    println!("cargo:rustc-link-lib=static=region_picker");
+    println!("cargo:rerun-if-changed={root}/../../target/staticlib/libregion_picker.a");
+}
