@@ -15,7 +15,7 @@ use genome::GenomePosition;
 ghost use mathlib.Core.Path.{_≡_};
 ghost use mathlib.Core.Bool.{cond};
 ghost use lib.Dec.{eqb};
-ghost use lib.ListN.{length, take, getD};
+ghost use lib.ListN.{length, take};
 ghost use Rattle.band_pass_kernel.specs.Kernel.{band};
 ghost use Rattle.activity_profile.specs.Making.{making, fullAfterMaking, narrowAfterMaking};
 ghost use Rattle.activity_profile.specs.Add.{addAnswer, addCells};

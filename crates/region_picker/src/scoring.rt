@@ -36,15 +36,15 @@ pub extern "C" fn region_picker_fill_tables(
     ensures { λ _. ⌜ now (table .exit) ≡ filled (scoringFrom «min_base_quality_score» «sample_ploidy» «snp_heterozygosity» «heterozygosity_standard_deviation» «ref_model_deletion_qual» «active_region_alt_multiplier» «flow_based_reference_model») (now (table .entry)) ⌝ }
     ensures { λ _. ⌜ now (priors .exit) ≡ priorsFilled (scoringFrom «min_base_quality_score» «sample_ploidy» «snp_heterozygosity» «heterozygosity_standard_deviation» «ref_model_deletion_qual» «active_region_alt_multiplier» «flow_based_reference_model») (now (priors .entry)) ⌝ }
 {
-    let params = HaplotypeCallerActivityScoringParams {
+    let params = scoring_params(
         min_base_quality_score,
-        sample_ploidy: Ploidy(sample_ploidy),
+        sample_ploidy,
         snp_heterozygosity,
         heterozygosity_standard_deviation,
         ref_model_deletion_qual,
         active_region_alt_multiplier,
         flow_based_reference_model,
-    };
+    );
     contribution_table::fill_contribution_table(table, params);
     genotype_posterior::fill_log10_priors(
         priors,
@@ -76,15 +76,15 @@ pub extern "C" fn region_picker_score(
     ensures { λ _. ⌜ now (activity .exit) ≡ outcomeWritten activityFields (scoreBy (now (table .entry)) (now (priors .entry)) 0 (record { 0 = pos }) (now (pile .entry)) (scoringFrom «min_base_quality_score» «sample_ploidy» «snp_heterozygosity» «heterozygosity_standard_deviation» «ref_model_deletion_qual» «active_region_alt_multiplier» «flow_based_reference_model»)) (now (activity .entry)) ⌝ }
     ensures { λ _. ⌜ now (evidence .exit) ≡ outcomeWritten stateEvidence (scoreBy (now (table .entry)) (now (priors .entry)) 0 (record { 0 = pos }) (now (pile .entry)) (scoringFrom «min_base_quality_score» «sample_ploidy» «snp_heterozygosity» «heterozygosity_standard_deviation» «ref_model_deletion_qual» «active_region_alt_multiplier» «flow_based_reference_model»)) (now (evidence .entry)) ⌝ }
 {
-    let params = HaplotypeCallerActivityScoringParams {
+    let params = scoring_params(
         min_base_quality_score,
-        sample_ploidy: Ploidy(sample_ploidy),
+        sample_ploidy,
         snp_heterozygosity,
         heterozygosity_standard_deviation,
         ref_model_deletion_qual,
         active_region_alt_multiplier,
         flow_based_reference_model,
-    };
+    );
     let scored = activity_scoring::haplotype_caller_activity_profile_state_by_tables(
         0,
         GenomePosition(pos),
@@ -101,6 +101,28 @@ pub extern "C" fn region_picker_score(
             0
         }
         Scored::Refused(why) => why.number(),
+    }
+}
+
+fn scoring_params(
+    min_base_quality_score: u8,
+    sample_ploidy: u8,
+    snp_heterozygosity: f64,
+    heterozygosity_standard_deviation: f64,
+    ref_model_deletion_qual: u8,
+    active_region_alt_multiplier: f64,
+    flow_based_reference_model: bool,
+) -> HaplotypeCallerActivityScoringParams
+    ensures { λ r. ⌜ r ≡ scoringFrom «min_base_quality_score» «sample_ploidy» «snp_heterozygosity» «heterozygosity_standard_deviation» «ref_model_deletion_qual» «active_region_alt_multiplier» «flow_based_reference_model» ⌝ }
+{
+    HaplotypeCallerActivityScoringParams {
+        min_base_quality_score,
+        sample_ploidy: Ploidy(sample_ploidy),
+        snp_heterozygosity,
+        heterozygosity_standard_deviation,
+        ref_model_deletion_qual,
+        active_region_alt_multiplier,
+        flow_based_reference_model,
     }
 }
 

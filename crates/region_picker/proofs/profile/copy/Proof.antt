@@ -6,7 +6,6 @@ use lib.Ieee.{nan}
 use lib.ListN.{length, length-set}
 use mathlib.Core.Path.{_∙_, _≡_, refl, sym}
 use native.Mathlib.Omega.{arith}
-use Rattle.activity_profile.specs.Loci.{from}
 use Rattle.lists.specs.Each.{upTo, upTo-put, upTo-rest, upTo-zero}
 use Rattle.region_picker.specs.Part.{copied, copiedEntry}
 use Rattle.region_picker.proofs.profile.copy.Statement.{statement}

@@ -4,6 +4,9 @@ use mathlib.Core.Path.{refl}
 use Rattle.region_picker.proofs.scoring.region_picker_score.Statement.{statement}
 use Rattle.region_picker.proofs.scoring.region_picker_score.Tie as tie
 
+scoring-params-requires : tie.Need-scoring-params-requires
+scoring-params-requires c κs = search needs
+
 haplotype-caller-activity-profile-state-by-tables-requires : tie.Need-haplotype-caller-activity-profile-state-by-tables-requires
 haplotype-caller-activity-profile-state-by-tables-requires c κs = search needs
 
@@ -22,17 +25,18 @@ number-requires c κs = search needs
 returns : tie.Need-returns
 returns c =
     let call = c .before .before .before .before .before in
-    simp (← call .haplotype-caller-activity-profile-state-by-tables .ensures, c .before .before .before .scored .given .1, c .evidence-fields .ensures) (refl, (refl, refl))
+    simp (← call .before .scoring-params .ensures, ← call .haplotype-caller-activity-profile-state-by-tables .ensures, c .before .before .before .scored .given .1, c .evidence-fields .ensures) (refl, (refl, refl))
 
 returns-2 : tie.Need-returns-2
 returns-2 c =
     let call = c .before .before .before .before in
-    simp (← call .haplotype-caller-activity-profile-state-by-tables .ensures, c .before .before .scored2 .given .1, c .number .ensures) (refl, (refl, refl))
+    simp (← call .before .scoring-params .ensures, ← call .haplotype-caller-activity-profile-state-by-tables .ensures, c .before .before .scored2 .given .1, c .number .ensures) (refl, (refl, refl))
 
 pub region-picker-score-spec : {M : Type 1} → statement M
 region-picker-score-spec =
     tie.close
     (tie.spec
+    scoring-params-requires
     haplotype-caller-activity-profile-state-by-tables-requires
     enum-known-scored
     evidence-fields-requires
