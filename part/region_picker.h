@@ -79,7 +79,7 @@ uint32_t region_picker_pop(uint32_t profile[REGION_PICKER_PROFILE], double activ
 size_t region_picker_table_length(uint8_t sample_ploidy);
 
 /* Fills the tables that scoring reads: `table`, of region_picker_table_length doubles, and `priors`, of sample_ploidy + 1. Once, and again whenever a setting of
- * scoring changes; it takes a millisecond or so. A table that is too short is left as it is. The ranges are those of region_picker_score. */
+ * scoring changes; docs/SPEED.md has its time. A table that is too short is left as it is. The ranges are those of region_picker_score. */
 void region_picker_fill_tables(double *table, size_t table_length, double *priors, size_t priors_length, uint8_t min_base_quality_score, uint8_t sample_ploidy,
                                double snp_heterozygosity, double heterozygosity_standard_deviation, uint8_t ref_model_deletion_qual,
                                double active_region_alt_multiplier, bool flow_based_reference_model);
