@@ -14,6 +14,8 @@ use Rattle.activity_profile.specs.declared.BandPassActivityProfile.{Band
 use Rattle.activity_profile.specs.declared.ActivityProfileState.{ActivityProfileState}
 use Rattle.activity_profile.specs.declared.ActivityEvidence.{ActivityEvidence}
 use Rattle.activity_profile.specs.declared.ActivityEvidence.the-variants.{Plain, HighQualitySoftClips}
+use Rattle.activity_profile.specs.declared.AddVerdict.{AddVerdict}
+use Rattle.activity_profile.specs.declared.AddVerdict.the-variants.{Granted, Refused as VerdictRefused}
 use Rattle.activity_profile.specs.declared.Added.{Added}
 use Rattle.activity_profile.specs.declared.Added.the-variants.{Accepted, Refused}
 use Rattle.activity_profile.specs.Loci.{from, cell}
@@ -106,6 +108,11 @@ addVerdict p n k s =
     (cond (notNext p s) (refusal 9)
     (cond (ltb n (needed p s)) (refusal 10)
     granted)))))
+
+-- a verdict of the code in these terms
+abbrev pub addVerdictOf : AddVerdict → Verdict
+addVerdictOf Granted = granted
+addVerdictOf (VerdictRefused r) = refusal (numberOf r)
 
 -- ---- the answer
 

@@ -1,12 +1,6 @@
-// The band-pass activity profile: its record, making one, adding a locus and popping a region (the Rust's activity_profile.rs). No public
-// function has a `requires`.
+// The band-pass activity profile: its record, what its calls answer, their definitions and the laws over them (the Rust's activity_profile.rs).
 //
 // The record goes in by value and comes back; the activity at each locus stands in cells that the caller lends.
-mod add;
-mod making;
-mod pop;
-mod record;
-
 use genome::GenomePosition;
 use genome::Refusal;
 
@@ -52,6 +46,12 @@ pub struct ActivityProfileRegion {
 // What a making answers.
 pub enum Made {
     Profile(BandPassActivityProfile),
+    Refused(Refusal),
+}
+
+// Whether an add is granted, or the first refusal that applies to it.
+pub enum AddVerdict {
+    Granted,
     Refused(Refusal),
 }
 

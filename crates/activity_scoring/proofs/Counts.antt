@@ -10,7 +10,8 @@ use Rattle.lists.specs.Loops.{foldl}
 use Rattle.lists.specs.Tests.{and-left, and-right}
 use Rattle.genome.specs.declared.GenomePosition.{GenomePosition}
 use Rattle.genotype_likelihoods.specs.declared.HaplotypeCallerActivityScoringParams.{HaplotypeCallerActivityScoringParams}
-use Rattle.genotype_likelihoods.specs.Observation.{observation, skipped}
+use Rattle.pileup_words.specs.Words.{observation}
+use Rattle.genotype_likelihoods.specs.Observation.{skipped}
 use Rattle.genotype_likelihoods.specs.Settings.{settingsInRange}
 use Rattle.activity_scoring.specs.declared.RunningMean.{RunningMean}
 use Rattle.activity_scoring.specs.Mean.{withCount, nextToClip, orNextToClip, counts, withWord}

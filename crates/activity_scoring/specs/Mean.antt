@@ -7,7 +7,8 @@ use lib.Ieee.{Float, binary64, ofInt, add, sub, div}
 use Rattle.lists.specs.Loops.{foldl}
 use Rattle.doubles.specs.Constants.{zeroF}
 use Rattle.genotype_likelihoods.specs.declared.HaplotypeCallerActivityScoringParams.{HaplotypeCallerActivityScoringParams}
-use Rattle.genotype_likelihoods.specs.Observation.{observation, skipped}
+use Rattle.pileup_words.specs.Words.{observation}
+use Rattle.genotype_likelihoods.specs.Observation.{skipped}
 use Rattle.activity_scoring.specs.declared.RunningMean.{RunningMean}
 
 -- mean + (count of bases − mean) / how many

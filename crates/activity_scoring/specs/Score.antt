@@ -13,11 +13,11 @@ use Rattle.genome.specs.Refusals.{numberOf, Outcome, refused, answered}
 use Rattle.genome.specs.Ranges.{isPosition}
 use Rattle.genotype_likelihoods.specs.declared.HaplotypeCallerActivityScoringParams.{HaplotypeCallerActivityScoringParams}
 use Rattle.genotype_likelihoods.specs.Settings.{settingsInRange}
-use Rattle.genotype_likelihoods.specs.Observation.{isObservation}
+use Rattle.pileup_words.specs.Words.{isObservation}
 use Rattle.genotype_likelihoods.specs.Likelihoods.{likelihoods}
 use Rattle.genotype_posterior.specs.Phred.{plRoundTrip}
 use Rattle.genotype_posterior.specs.Posterior.{posterior}
-use Rattle.math_utils.specs.Sums.{maxElementIndex}
+use Rattle.log10_sums.specs.Sums.{maxElementIndex}
 use Rattle.activity_profile.specs.declared.ActivityProfileState.{ActivityProfileState}
 use Rattle.activity_profile.specs.declared.ActivityEvidence.{ActivityEvidence}
 use Rattle.activity_profile.specs.declared.ActivityEvidence.the-variants.{Plain, HighQualitySoftClips}

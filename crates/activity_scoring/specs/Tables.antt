@@ -16,7 +16,7 @@ use Rattle.contribution_table.specs.Table.{filled, likelihoodsBy}
 use Rattle.contribution_table.specs.Filled.{likelihoods-by-filled, likelihoods-by-none}
 use Rattle.genotype_posterior.specs.Phred.{plRoundTrip}
 use Rattle.genotype_posterior.specs.Priors.{log10Priors, posteriorBy, posteriorWrittenBy, posterior-filled, posterior-none}
-use Rattle.math_utils.specs.Sums.{maxElementIndex}
+use Rattle.log10_sums.specs.Sums.{maxElementIndex}
 use Rattle.activity_profile.specs.declared.ActivityProfileState.{ActivityProfileState}
 use Rattle.activity_scoring.specs.declared.Activity.{Activity}
 use Rattle.activity_scoring.specs.Score.{inRange, activityOf, stateWith, scoreWith, scoreOf}

@@ -1,7 +1,7 @@
 // The running mean of clip counts.
 use crate::RunningMean;
 use genotype_likelihoods::HaplotypeCallerActivityScoringParams;
-use genotype_likelihoods::PileupObservation;
+use pileup_words::PileupObservation;
 ghost use mathlib.Core.Path.{_≡_};
 ghost use mathlib.Core.Bool.{false};
 ghost use Prim.Native.Nat.{_<_};

@@ -7,7 +7,7 @@ use activity_profile::ActivityProfileState;
 use genome::GenomePosition;
 use genome::Refusal;
 use genotype_likelihoods::HaplotypeCallerActivityScoringParams;
-use genotype_likelihoods::PileupObservation;
+use pileup_words::PileupObservation;
 ghost use mathlib.Core.Path.{_≡_};
 ghost use mathlib.Core.Bool.{true};
 ghost use Prim.Native.Nat.{_+_, _≤_};
@@ -62,7 +62,7 @@ pub fn haplotype_caller_activity_profile_state_by_tables(
 fn is_in_range(pos: GenomePosition, params: HaplotypeCallerActivityScoringParams) -> bool
     ensures { λ r. ⌜ r ≡ inRange pos params ⌝ }
 {
-    params.in_range() & genome::within_u32(1, pos.0, genome::MAX_POSITION)
+    params.in_range() & numbers::within_u32(1, pos.0, genome::MAX_POSITION)
 }
 
 fn are_observations(pile: &[u32]) -> bool
@@ -113,7 +113,7 @@ fn evidence_of(mean: f64) -> ActivityEvidence
     ensures { λ r. ⌜ r ≡ evidenceOf mean ⌝ }
 {
     if mean > AVERAGE_HQ_SOFTCLIPS_HQ_BASES_THRESHOLD {
-        let clip_bases = math_utils::as_u32(mean);
+        let clip_bases = numbers::as_u32(mean);
         return ActivityEvidence::HighQualitySoftClips { clip_bases };
     }
     ActivityEvidence::Plain
@@ -197,7 +197,7 @@ fn from_rounded(
     ensures { λ r. ⌜ r ≡ fromRoundedBy (now (priors .entry)) params (now (gl .entry)) ⌝ }
     ensures { λ _. ⌜ now (gl .exit) ≡ writtenBy (now (priors .entry)) params (now (gl .entry)) ⌝ }
 {
-    let m = math_utils::max_element_index(&gl[..]);
+    let m = log10_sums::max_element_index(&gl[..]);
     let original = gl[m] - gl[0];
     let probability =
         genotype_posterior::calculate_single_sample_biallelic_non_ref_posterior_by_priors(

@@ -63,14 +63,14 @@ impl BandPassActivityProfileParams {
     fn in_range(self) -> bool
         ensures { λ r. ⌜ r ≡ inRange self ⌝ }
     {
-        genome::within_u32(
+        numbers::within_u32(
             0,
             self.max_prob_propagation_distance,
             Self::MAX_PROPAGATION_DISTANCE,
         )
-            & genome::within_f64(0.0, self.active_prob_threshold, 1.0)
-            & genome::within_u32(0, self.max_filter_size, Self::MAX_FILTER_SIZE)
-            & genome::within_f64(Self::MIN_SIGMA, self.sigma, Self::MAX_SIGMA)
+            & numbers::within_f64(0.0, self.active_prob_threshold, 1.0)
+            & numbers::within_u32(0, self.max_filter_size, Self::MAX_FILTER_SIZE)
+            & numbers::within_f64(Self::MIN_SIGMA, self.sigma, Self::MAX_SIGMA)
     }
 
     // Whether each buffer has room for the full kernel.

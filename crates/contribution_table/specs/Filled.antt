@@ -19,7 +19,8 @@ use Rattle.lists.specs.Tests.{and-left, and-right}
 use Rattle.lists.specs.Window.{split}
 use Rattle.doubles.specs.Constants.{zeroF}
 use Rattle.genotype_likelihoods.specs.declared.HaplotypeCallerActivityScoringParams.{HaplotypeCallerActivityScoringParams}
-use Rattle.genotype_likelihoods.specs.Observation.{observation, effectiveQual, qualOf, skipped}
+use Rattle.pileup_words.specs.Words.{observation}
+use Rattle.genotype_likelihoods.specs.Observation.{effectiveQual, qualOf, skipped}
 use Rattle.genotype_likelihoods.specs.Contribution.{contributionOf, log10Whole}
 use Rattle.genotype_likelihoods.specs.Likelihoods.{weight, gained, taken, counted, less, likelihoods}
 use Rattle.contribution_table.specs.Table.{ploidyOf, rows, rowLength, tableLength, cellOf, cellAt, tabled, filled, rowOf, takenAt, likelihoodAt, fits, likelihoodsBy}

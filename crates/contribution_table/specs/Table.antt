@@ -11,7 +11,8 @@ use Rattle.lists.specs.Loops.{foldl}
 use Rattle.lists.specs.Each.{each, tabulate}
 use Rattle.doubles.specs.Constants.{zeroF}
 use Rattle.genotype_likelihoods.specs.declared.HaplotypeCallerActivityScoringParams.{HaplotypeCallerActivityScoringParams}
-use Rattle.genotype_likelihoods.specs.Observation.{observation, qualOf, skipped}
+use Rattle.pileup_words.specs.Words.{observation}
+use Rattle.genotype_likelihoods.specs.Observation.{qualOf, skipped}
 use Rattle.genotype_likelihoods.specs.Contribution.{contributionOf, log10Whole}
 use Rattle.genotype_likelihoods.specs.Likelihoods.{weight, counted, likelihoods}
 

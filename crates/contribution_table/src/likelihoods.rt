@@ -4,7 +4,7 @@ use crate::Sums;
 use crate::fill::row_length;
 use crate::fill::table_length;
 use genotype_likelihoods::HaplotypeCallerActivityScoringParams;
-use genotype_likelihoods::PileupObservation;
+use pileup_words::PileupObservation;
 ghost use mathlib.Core.Path.{_≡_};
 ghost use mathlib.Core.Bool.{true, cond};
 ghost use Prim.Native.Nat.{_+_, _*_, _/_, _%_, _<_, _≤_};

@@ -1,8 +1,8 @@
--- 01, Ranges: those that more than one chapter names. Both ends of a range are inside; a NaN is inside none.
-use mathlib.Core.Bool.{Bool, _&&_}
+-- 01, Ranges: those that more than one chapter names.
+use mathlib.Core.Bool.{Bool}
 use Prim.Native.Nat.{ℕ}
-use lib.Dec.{leb}
-use lib.Ieee.{Float, le}
+use lib.Ieee.{Float}
+use Rattle.numbers.specs.Ranges.{between, within}
 use Rattle.doubles.specs.Constants.{zeroF, oneF}
 
 -- the longest contig
@@ -11,8 +11,8 @@ maxPosition = 1_073_741_823
 
 -- "contig length 1 to 1,073,741,823"; scoring: "The position must be in 1 to 1,073,741,823"
 abbrev pub isPosition : ℕ → Bool
-isPosition n = leb 1 n && leb n maxPosition
+isPosition n = between 1 n maxPosition
 
 -- "0.0 to 1.0": a threshold, a probability
 abbrev pub isProbability : Float → Bool
-isProbability x = le zeroF x && le x oneF
+isProbability x = within zeroF x oneF

@@ -1,8 +1,5 @@
-// Units on the genome, ranges, and document 01's refusals with their numbers. No public function has a `requires`.
+// Units on the genome, the longest contig, and document 01's refusals with their numbers. No public function has a `requires`.
 ghost use mathlib.Core.Path.{_≡_};
-ghost use mathlib.Core.Bool.{_&&_};
-ghost use lib.Dec.{leb};
-ghost use lib.Ieee.{le};
 ghost use Rattle.genome.specs.Refusals.{numberOf};
 
 // A position on a contig, from 1 on as in the SAM specification. The Rust's is 64-bit; document 01's positions are 32-bit.
@@ -59,18 +56,4 @@ impl Refusal {
             Refusal::ZeroSize => 11,
         }
     }
-}
-
-// Whether n is in low to high, both ends included.
-pub fn within_u32(low: u32, n: u32, high: u32) -> bool
-    ensures { λ r. ⌜ r ≡ (leb low n && leb n high) ⌝ }
-{
-    (low <= n) & (n <= high)
-}
-
-// Whether x is in low to high, both ends included. A NaN is in no range.
-pub fn within_f64(low: f64, x: f64, high: f64) -> bool
-    ensures { λ r. ⌜ r ≡ (le low x && le x high) ⌝ }
-{
-    (low <= x) & (x <= high)
 }

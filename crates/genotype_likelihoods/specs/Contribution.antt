@@ -8,7 +8,7 @@ use lib.Ieee.{Float, binary64, ofBits, ofInt, add, sub, mul, div, neg}
 use Rattle.doubles.specs.Constants.{zeroF, oneF, tenF}
 use Rattle.elementary.specs.Exp.{tenToOf}
 use Rattle.elementary.specs.Ln.{log10Of}
-use Rattle.math_utils.specs.Pair.{approximateLog10SumLog10Pair}
+use Rattle.log10_sums.specs.Pair.{approximateLog10SumLog10Pair}
 
 -- 10 to (−q / 10)
 unfoldable pub errorProb : ℕ → Float

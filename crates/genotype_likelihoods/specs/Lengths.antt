@@ -10,7 +10,8 @@ use Rattle.lists.specs.Each.{each, length-each}
 use Rattle.lists.specs.Loops.{foldl}
 use Rattle.doubles.specs.Constants.{zeroF}
 use Rattle.genotype_likelihoods.specs.declared.HaplotypeCallerActivityScoringParams.{HaplotypeCallerActivityScoringParams}
-use Rattle.genotype_likelihoods.specs.Observation.{observation, qualOf, skipped}
+use Rattle.pileup_words.specs.Words.{observation}
+use Rattle.genotype_likelihoods.specs.Observation.{qualOf, skipped}
 use Rattle.genotype_likelihoods.specs.Likelihoods.{weight, gained, taken, counted, likelihoods}
 
 pub length-taken : (s : HaplotypeCallerActivityScoringParams) (gl : List Float) (w : ℕ) → length (taken s gl w) ≡ length gl

@@ -9,7 +9,8 @@ use Rattle.lists.specs.Loops.{foldl}
 use Rattle.lists.specs.Each.{each}
 use Rattle.doubles.specs.Constants.{zeroF, oneF}
 use Rattle.genotype_likelihoods.specs.declared.HaplotypeCallerActivityScoringParams.{HaplotypeCallerActivityScoringParams}
-use Rattle.genotype_likelihoods.specs.Observation.{observation, qualOf, skipped}
+use Rattle.pileup_words.specs.Words.{observation}
+use Rattle.genotype_likelihoods.specs.Observation.{qualOf, skipped}
 use Rattle.genotype_likelihoods.specs.Contribution.{contributionOf, log10Whole}
 
 -- the alternate has a weight of its own

@@ -1,25 +1,10 @@
--- 01, Scoring: "An observation is a 32-bit word: bits 31-30 kind 1, 29-22 quality, 21 deletion, 20 alt, 19 next to soft clip, 18-0 clip count".
+-- 01, Scoring: the quality of an observation, and which are skipped.
 use mathlib.Core.Bool.{Bool, cond, not, _&&_, _||_}
-use Prim.Native.Nat.{ℕ, _/_, _%_}
-use lib.Dec.{eqb, ltb}
+use Prim.Native.Nat.{ℕ}
+use lib.Dec.{ltb}
+use Rattle.pileup_words.specs.declared.PileupObservation.{PileupObservation}
+use Rattle.pileup_words.specs.Words.{observation}
 use Rattle.genotype_likelihoods.specs.declared.HaplotypeCallerActivityScoringParams.{HaplotypeCallerActivityScoringParams}
-use Rattle.genotype_likelihoods.specs.declared.PileupObservation.{PileupObservation}
-
--- bits 31-30
-abbrev pub kind : ℕ → ℕ
-kind w = w / 0x4000_0000
-
-abbrev pub isObservation : ℕ → Bool
-isObservation w = eqb (kind w) 1
-
-abbrev pub observation : ℕ → PileupObservation
-observation w = record {
-  qual = w / 0x40_0000 % 256;
-  «is_deletion» = eqb (w / 0x20_0000 % 2) 1;
-  «is_alt» = eqb (w / 0x10_0000 % 2) 1;
-  «is_next_to_soft_clip» = eqb (w / 0x8_0000 % 2) 1;
-  «read_hq_soft_clip_base_count» = w % 0x8_0000;
-}
 
 -- "a deletion takes deletion quality"
 unfoldable pub effectiveQual : HaplotypeCallerActivityScoringParams → PileupObservation → ℕ

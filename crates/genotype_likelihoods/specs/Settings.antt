@@ -1,9 +1,8 @@
 -- 01, Ranges, and "scoring has the Rust's defaults".
 use mathlib.Core.Bool.{Bool, false, _&&_}
-use Prim.Native.Nat.{ℕ}
-use lib.Dec.{leb}
-use lib.Ieee.{Float, binary64, ofBits, le}
+use lib.Ieee.{binary64, ofBits}
 use Rattle.doubles.specs.Constants.{halfF, oneF}
+use Rattle.numbers.specs.Ranges.{between, within}
 use Rattle.genotype_likelihoods.specs.declared.HaplotypeCallerActivityScoringParams.{HaplotypeCallerActivityScoringParams}
 
 -- min base quality 10, ploidy 2, SNP heterozygosity 0.001, its deviation 0.01, deletion quality 30, alt multiplier 1, no flow model
@@ -17,13 +16,6 @@ defaults = record {
   «active_region_alt_multiplier» = oneF;
   «flow_based_reference_model» = false;
 }
-
--- both ends are inside; a NaN is inside no range
-abbrev pub between : ℕ → ℕ → ℕ → Bool
-between low n high = leb low n && leb n high
-
-abbrev pub within : Float → Float → Float → Bool
-within low x high = le low x && le x high
 
 -- "min base quality and deletion quality 1 to 254; ploidy 1 to 100; SNP heterozygosity 0.000001 to 0.5; its deviation 0.0001 to 1; alt
 -- multiplier 1/1024 to 1024"

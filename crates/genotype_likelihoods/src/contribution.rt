@@ -2,7 +2,6 @@
 use genome::Ploidy;
 ghost use mathlib.Core.Path.{_≡_};
 ghost use mathlib.Core.Bool.{cond};
-ghost use Prim.Native.Nat.{_-_};
 ghost use Rattle.genotype_likelihoods.specs.Contribution.{errorProb, qualToProbLog10, qualToErrorProbLog10Third, log10Whole, contributionOf};
 
 // log10 of the likelihood of the read under a genotype with `genotype` copies of the alternate of `ploidy`, times the ploidy.
@@ -21,9 +20,9 @@ pub fn genotype_contribution(qual: u8, is_alt: bool, genotype: usize, ploidy: Pl
     if i == n {
         return non_ref_likelihood + log10_whole(n);
     }
-    let r = reference_likelihood + log10_whole(monus(n, i));
+    let r = reference_likelihood + log10_whole(numbers::monus(n, i));
     let a = non_ref_likelihood + log10_whole(i);
-    math_utils::approximate_log10_sum_log10_pair(r, a)
+    log10_sums::approximate_log10_sum_log10_pair(r, a)
 }
 
 // The probability that a base of this quality is wrong.
@@ -60,11 +59,4 @@ fn pick(b: bool, x: f64, y: f64) -> f64
     ensures { λ r. ⌜ r ≡ cond b x y ⌝ }
 {
     if b { x } else { y }
-}
-
-// n - i, and 0 where i is larger.
-fn monus(n: u64, i: u64) -> u64
-    ensures { λ r. ⌜ r ≡ n - i ⌝ }
-{
-    if i < n { n - i } else { 0 }
 }

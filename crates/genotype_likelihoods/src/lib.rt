@@ -25,12 +25,3 @@ pub struct HaplotypeCallerActivityScoringParams {
     // Whether a deletion of too low a quality is skipped too.
     pub flow_based_reference_model: bool,
 }
-
-// One read at a locus.
-pub struct PileupObservation {
-    pub qual: u8,
-    pub is_deletion: bool,
-    pub is_alt: bool,
-    pub is_next_to_soft_clip: bool,
-    pub read_hq_soft_clip_base_count: u32,
-}

@@ -1,10 +1,10 @@
 // The likelihoods of every genotype over a whole pile.
 use crate::HaplotypeCallerActivityScoringParams;
-use crate::PileupObservation;
 use crate::contribution::genotype_contribution;
 use crate::observation::effective_qual;
 use crate::observation::skip_observation;
 use genome::Ploidy;
+use pileup_words::PileupObservation;
 ghost use mathlib.Core.Path.{_≡_};
 ghost use mathlib.Core.Bool.{cond};
 ghost use Prim.Native.Nat.{_<_};

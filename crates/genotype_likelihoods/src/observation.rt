@@ -1,30 +1,8 @@
-// Observation words, and which of them are skipped.
+// Which observations are skipped, and by what quality.
 use crate::HaplotypeCallerActivityScoringParams;
-use crate::PileupObservation;
+use pileup_words::PileupObservation;
 ghost use mathlib.Core.Path.{_≡_};
-ghost use Rattle.genotype_likelihoods.specs.Observation.{isObservation, observation, effectiveQual, skips};
-
-impl PileupObservation {
-    // Whether a word is an observation: of kind 1.
-    pub fn is_word(w: u32) -> bool
-        ensures { λ r. ⌜ r ≡ isObservation w ⌝ }
-    {
-        w / 0x4000_0000 == 1
-    }
-
-    // The observation that a word holds, whatever its kind.
-    pub fn from_word(w: u32) -> PileupObservation
-        ensures { λ r. ⌜ r ≡ observation w ⌝ }
-    {
-        PileupObservation {
-            qual: (w / 0x40_0000 % 256) as u8,
-            is_deletion: w / 0x20_0000 % 2 == 1,
-            is_alt: w / 0x10_0000 % 2 == 1,
-            is_next_to_soft_clip: w / 0x8_0000 % 2 == 1,
-            read_hq_soft_clip_base_count: w % 0x8_0000,
-        }
-    }
-}
+ghost use Rattle.genotype_likelihoods.specs.Observation.{effectiveQual, skips};
 
 // The quality that counts: a deletion takes the deletion quality.
 pub fn effective_qual(obs: PileupObservation, params: HaplotypeCallerActivityScoringParams) -> u8

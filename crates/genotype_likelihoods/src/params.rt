@@ -56,28 +56,28 @@ impl HaplotypeCallerActivityScoringParams {
         ensures { λ r. ⌜ r ≡ settingsInRange self ⌝ }
     {
         let ploidy = self.sample_ploidy;
-        genome::within_u32(1, ploidy.0 as u32, Self::MAX_PLOIDY)
-            & genome::within_u32(
+        numbers::within_u32(1, ploidy.0 as u32, Self::MAX_PLOIDY)
+            & numbers::within_u32(
                 Self::MIN_QUAL,
                 self.min_base_quality_score as u32,
                 Self::MAX_QUAL,
             )
-            & genome::within_u32(
+            & numbers::within_u32(
                 Self::MIN_QUAL,
                 self.ref_model_deletion_qual as u32,
                 Self::MAX_QUAL,
             )
-            & genome::within_f64(
+            & numbers::within_f64(
                 Self::MIN_HETEROZYGOSITY,
                 self.snp_heterozygosity,
                 Self::MAX_HETEROZYGOSITY,
             )
-            & genome::within_f64(
+            & numbers::within_f64(
                 Self::MIN_STANDARD_DEVIATION,
                 self.heterozygosity_standard_deviation,
                 Self::MAX_STANDARD_DEVIATION,
             )
-            & genome::within_f64(
+            & numbers::within_f64(
                 Self::MIN_ALT_MULTIPLIER,
                 self.active_region_alt_multiplier,
                 Self::MAX_ALT_MULTIPLIER,

@@ -12,7 +12,7 @@ use Rattle.lists.specs.Each.{each}
 use Rattle.doubles.specs.Constants.{zeroF, oneF}
 use Rattle.elementary.specs.Exp.{tenToOf}
 use Rattle.elementary.specs.LnGamma.{lnGammaOf}
-use Rattle.math_utils.specs.Sums.{maxElementIndex, log10SumLog10}
+use Rattle.log10_sums.specs.Sums.{maxElementIndex, log10SumLog10}
 
 abbrev pub whole : ℕ → Float
 whole n = ofInt binary64 (pos n)

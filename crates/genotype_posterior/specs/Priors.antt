@@ -11,7 +11,7 @@ use lib.Ieee.{Float, binary64, ofBits, add, mul, nan}
 use Rattle.lists.specs.Loops.{along}
 use Rattle.lists.specs.Each.{each, length-each, getD-each, tabulate, length-tabulate, getD-tabulate}
 use Rattle.doubles.specs.Constants.{zeroF}
-use Rattle.math_utils.specs.Sums.{maxElementIndex}
+use Rattle.log10_sums.specs.Sums.{maxElementIndex}
 use Rattle.genotype_posterior.specs.Posterior.{refPseudocount, snpPseudocount, lnPrior, unnormalized, unnormalizedAll, nonRef, posterior, posteriorWritten}
 
 -- of genotypes genotypes, the log10 prior of n copies

@@ -27,7 +27,7 @@ use Rattle.elementary.specs.Ln.{log10Of}
 use Rattle.elementary.specs.ExpRange.{exp-small, less-exp-unit, ln10-size, ln10-plus}
 use Rattle.elementary.specs.LnRange.{log10-size, log10-plus}
 use Rattle.elementary.specs.GammaRange.{above-zero, finite-below}
-use Rattle.math_utils.specs.Sums.{larger, maxElementIndex, power, powers, logOrZero, sumFrom, log10SumLog10}
+use Rattle.log10_sums.specs.Sums.{larger, maxElementIndex, power, powers, logOrZero, sumFrom, log10SumLog10}
 use Rattle.genotype_posterior.specs.Phred.{plOf, scaled, roundTrip, adjust, plRoundTrip}
 use Rattle.genotype_posterior.specs.Posterior.{refPseudocount, snpPseudocount, unnormalized, unnormalizedAll, nonRef, posterior}
 use Rattle.genotype_posterior.specs.PriorRange.{InRange, unnormalized-size}

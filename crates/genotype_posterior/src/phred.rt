@@ -16,7 +16,7 @@ pub fn genotype_log10_likelihoods_after_java_genotype_pl_roundtrip(gl: &mut [f64
 fn largest(gl: &[f64]) -> f64
     ensures { λ r. ⌜ r ≡ adjust (now (gl .entry)) ⌝ }
 {
-    let mut top = math_utils::neg_infinity();
+    let mut top = log10_sums::neg_infinity();
     let mut i = 0;
     while i < gl.len() {
         top = max(top, gl[i]);
@@ -53,7 +53,7 @@ fn pl_of(value: f64) -> u32
 fn whole_pl(x: f64) -> u32
     ensures { λ r. ⌜ r ≡ toUnsigned 31 x ⌝ }
 {
-    let n = math_utils::as_u64(x);
+    let n = numbers::as_u64(x);
     if n <= 2147483647 {
         return n as u32;
     }

@@ -16,7 +16,7 @@ pub fn calculate_single_sample_biallelic_non_ref_posterior(
     ensures { λ r. ⌜ r ≡ posterior «snp_heterozygosity» «heterozygosity_standard_deviation» (now (gl .entry)) ⌝ }
     ensures { λ _. ⌜ now (gl .exit) ≡ posteriorWritten «snp_heterozygosity» «heterozygosity_standard_deviation» (now (gl .entry)) ⌝ }
 {
-    if math_utils::max_element_index(&gl[..]) == 0 {
+    if log10_sums::max_element_index(&gl[..]) == 0 {
         return 0.0;
     }
     let ref_pc = snp_heterozygosity
@@ -68,10 +68,10 @@ fn non_ref(u: &[f64]) -> f64
     requires { ⌜ 0 < length (now u) ⌝ }
     ensures { λ r. ⌜ r ≡ nonRef (now (u .entry)) ⌝ }
 {
-    if math_utils::max_element_index(u) == 0 {
+    if log10_sums::max_element_index(u) == 0 {
         return 0.0;
     }
-    let sum = math_utils::log10_sum_log10(u);
+    let sum = log10_sums::log10_sum_log10(u);
     1.0 - elementary::ten_to(u[0] - sum)
 }
 
@@ -107,7 +107,7 @@ pub fn calculate_single_sample_biallelic_non_ref_posterior_by_priors(
     ensures { λ r. ⌜ r ≡ posteriorBy (now (priors .entry)) «snp_heterozygosity» «heterozygosity_standard_deviation» (now (gl .entry)) ⌝ }
     ensures { λ _. ⌜ now (gl .exit) ≡ posteriorWrittenBy (now (priors .entry)) «snp_heterozygosity» «heterozygosity_standard_deviation» (now (gl .entry)) ⌝ }
 {
-    if math_utils::max_element_index(&gl[..]) == 0 {
+    if log10_sums::max_element_index(&gl[..]) == 0 {
         return 0.0;
     }
     unnormalize(

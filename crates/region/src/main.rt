@@ -4,17 +4,17 @@ mod output;
 
 use libc::STDIN_FILENO;
 use output::Output;
-use region_stream::CELLS;
-use region_stream::KERNEL;
-use region_stream::PILE;
-use region_stream::PRIORS;
-use region_stream::RegionStream;
-use region_stream::Step;
-use region_stream::TABLE;
+use stream_state::CELLS;
+use stream_state::KERNEL;
+use stream_state::PILE;
+use stream_state::PRIORS;
+use stream_state::RegionStream;
+use stream_state::Step;
+use stream_state::TABLE;
 ghost use mathlib.Core.Path.{_≡_};
 ghost use Prim.Native.Nat.{_+_, _*_, _/_, _≤_, _<_};
 ghost use lib.ListN.{length};
-ghost use Rattle.region_stream.specs.Stream.{looksLeft};
+ghost use Rattle.stream_state.specs.Stream.{looksLeft};
 ghost use Rattle.lists.specs.Each.{each};
 ghost use Rattle.region.specs.Blocks.{BlockUpTo, wordAt, readWord};
 
@@ -50,7 +50,7 @@ fn main() {
     let mut words = [0u32; WORDS];
     let mut input = io::large_buffer();
     let mut lines = io::large_buffer();
-    region_stream::fill_tables(&mut table, &mut priors);
+    pile_end::fill_tables(&mut table, &mut priors);
     run(
         &mut input,
         &mut words,
@@ -264,7 +264,7 @@ fn observe(r: State, words: &[u32], pile: &mut [u32; PILE]) -> State
 {
     let stream = r.stream;
     let output = r.output;
-    let observed = stream.observations(words, pile);
+    let observed = stream_observations::observations(stream, words, pile);
     let next = observed.stream;
     run_at(next, r.at + observed.taken, output, r.stopped)
 }
@@ -312,7 +312,7 @@ fn look(
     ensures { λ s. ⌜ (s .at ≤ r .at + 1) × (looksLeft (s .stream) + r .at * 4400 < looksLeft (r .stream) + s .at * 4400) ⌝ }
 {
     let stream = r.stream;
-    let step = stream.word(w, pile, full, narrow, cells, table, priors);
+    let step = region_stream::word(stream, w, pile, full, narrow, cells, table, priors);
     let output = r.output;
     match step {
         Step::Go(next) => run_at(next, r.at + 1, output, output.failed),
@@ -397,9 +397,9 @@ fn last_look(
     priors: &[f64; PRIORS],
 ) -> Step {
     if remainder {
-        return stream.remainder(pile, full, narrow, cells, table, priors);
+        return stream_end::remainder(stream, pile, full, narrow, cells, table, priors);
     }
-    stream.end(pile, full, narrow, cells, table, priors)
+    stream_end::end(stream, pile, full, narrow, cells, table, priors)
 }
 
 // The line of the last look.

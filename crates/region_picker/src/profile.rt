@@ -49,7 +49,7 @@ pub extern "C" fn region_picker_make(
         sigma,
         adaptive_filter_size,
     };
-    let made = BandPassActivityProfile::new(contig, contig_len, params, full, narrow);
+    let made = profile_record::new(contig, contig_len, params, full, narrow);
     match made {
         Made::Profile(p) => {
             *profile = record_of(p);
@@ -109,7 +109,7 @@ pub extern "C" fn region_picker_add(
         original_active_prob,
         evidence,
     };
-    let added = p.add(state, kernel, cells);
+    let added = profile_add::add(p, state, kernel, cells);
     match added {
         Added::Accepted(next) => {
             *profile = record_of(next);
@@ -137,7 +137,8 @@ pub extern "C" fn region_picker_pop(
     ensures { λ _. ⌜ now (region .exit) ≡ popRegion (popAnswer (profileOf (now (profile .entry)) «active_prob_threshold») (now (cells .entry)) «assembly_region_extension» «min_region_size» «max_region_size» forced) (now (region .entry)) ⌝ }
 {
     let p = profile_of(profile, active_prob_threshold);
-    let popped = p.try_pop_next_ready_region(
+    let popped = profile_pop::try_pop_next_ready_region(
+        p,
         cells,
         assembly_region_extension,
         min_region_size,

@@ -13,7 +13,7 @@ fn main() {
         replay_file(i, &mut asked, &mut agreed);
         i += 1;
     }
-    report(&asked, &agreed);
+    report(asked, agreed);
 }
 
 // Replays the file that argument i names.
@@ -90,7 +90,7 @@ fn replay(function: u64, words: &[u64]) -> bool {
 }
 
 // A line for each function that the lists had.
-fn report(asked: &[u64; 17], agreed: &[u64; 17]) {
+fn report(asked: [u64; 17], agreed: [u64; 17]) {
     line(b"exp", asked[1], agreed[1]);
     line(b"ln", asked[2], agreed[2]);
     line(b"log10", asked[3], agreed[3]);

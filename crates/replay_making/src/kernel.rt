@@ -54,7 +54,7 @@ pub fn making(words: &[u64]) -> bool {
 
 fn making_in(words: &[u64], full: &mut [f64], narrow: &mut [f64]) -> bool {
     let params = params_of(words);
-    let made = BandPassActivityProfile::new(
+    let made = profile_record::new(
         number_at(words, 0),
         number_at(words, 1),
         params,

@@ -23,7 +23,7 @@ pub fn add(words: &[u64]) -> bool {
 }
 
 fn add_in(words: &[u64], kernel: &[f64], cells: &mut [f64], results: usize) -> bool {
-    let added = record_at(words, 0).add(state_at(words, 8), kernel, cells);
+    let added = profile_add::add(record_at(words, 0), state_at(words, 8), kernel, cells);
     let c = added_number(words, Compared::from(results), added);
     record(words, c, added_record(added))
         .doubles(words, cells)
@@ -63,7 +63,8 @@ fn pop_in(words: &[u64], cells: &mut [f64], results: usize) -> bool {
 
 // A pop with the sizes from word `at` on.
 pub fn pop_at(words: &[u64], p: BandPassActivityProfile, at: usize, cells: &mut [f64]) -> Popped {
-    p.try_pop_next_ready_region(
+    profile_pop::try_pop_next_ready_region(
+        p,
         cells,
         number_at(words, at),
         number_at(words, plus(at, 1)),

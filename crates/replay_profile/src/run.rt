@@ -23,7 +23,7 @@ pub fn run(words: &[u64]) -> bool {
 }
 
 fn run_in(words: &[u64], full: &mut [f64], narrow: &mut [f64], cells: &mut [f64]) -> bool {
-    let made = BandPassActivityProfile::new(
+    let made = profile_record::new(
         number_at(words, 0),
         number_at(words, 1),
         replay_making::params_of(words),
@@ -81,7 +81,7 @@ fn run_add(
     kernel: &[f64],
     cells: &mut [f64],
 ) -> Running {
-    let added = p.add(call::state_at(words, plus(c.at, 1)), kernel, cells);
+    let added = profile_add::add(p, call::state_at(words, plus(c.at, 1)), kernel, cells);
     let d = Compared {
         at: plus(c.at, 6),
         same: c.same,

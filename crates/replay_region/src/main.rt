@@ -5,8 +5,8 @@ mod stream;
 
 use answer_list::Answer;
 use libc::STDOUT_FILENO;
-use region_stream::PRIORS;
-use region_stream::TABLE;
+use stream_state::PRIORS;
+use stream_state::TABLE;
 
 // How many answers there were, how many agree, and whether the list is at its end.
 struct Tally {
@@ -23,7 +23,7 @@ fn main() {
     };
     let mut table = [0.0f64; TABLE];
     let mut priors = [0.0f64; PRIORS];
-    region_stream::fill_tables(&mut table, &mut priors);
+    pile_end::fill_tables(&mut table, &mut priors);
     let count = os::arg_count();
     let mut i = 1;
     while i < count {

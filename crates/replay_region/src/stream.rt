@@ -2,13 +2,13 @@
 use crate::expected::Expected;
 use answer_list::number_at;
 use answer_list::word_at;
-use region_stream::CELLS;
-use region_stream::KERNEL;
-use region_stream::PILE;
-use region_stream::PRIORS;
-use region_stream::RegionStream;
-use region_stream::Step;
-use region_stream::TABLE;
+use stream_state::CELLS;
+use stream_state::KERNEL;
+use stream_state::PILE;
+use stream_state::PRIORS;
+use stream_state::RegionStream;
+use stream_state::Step;
+use stream_state::TABLE;
 ghost use Prim.Native.Nat.{_≤_};
 ghost use lib.ListN.{length};
 
@@ -228,7 +228,7 @@ fn look(
     priors: &[f64; PRIORS],
 ) -> Replayed {
     let stream = r.stream;
-    let step = stream.word(w, pile, full, narrow, cells, table, priors);
+    let step = region_stream::word(stream, w, pile, full, narrow, cells, table, priors);
     answered(r, words, step)
 }
 
@@ -278,12 +278,12 @@ fn end(
         return answered(
             r,
             words,
-            stream.end(pile, full, narrow, cells, table, priors),
+            stream_end::end(stream, pile, full, narrow, cells, table, priors),
         );
     }
     answered(
         r,
         words,
-        stream.remainder(pile, full, narrow, cells, table, priors),
+        stream_end::remainder(stream, pile, full, narrow, cells, table, priors),
     )
 }

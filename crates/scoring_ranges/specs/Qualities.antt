@@ -9,7 +9,8 @@ use borrow.Author.Tests.{leb-true, ltb-false}
 use Rattle.lists.specs.Tests.{and-left, and-right}
 use Rattle.genotype_likelihoods.specs.declared.HaplotypeCallerActivityScoringParams.{HaplotypeCallerActivityScoringParams}
 use Rattle.genotype_likelihoods.specs.Settings.{settingsInRange}
-use Rattle.genotype_likelihoods.specs.Observation.{observation, effectiveQual, skips, qualOf, skipped}
+use Rattle.pileup_words.specs.Words.{observation}
+use Rattle.genotype_likelihoods.specs.Observation.{effectiveQual, skips, qualOf, skipped}
 
 minimum-from-1 : (s : HaplotypeCallerActivityScoringParams) → settingsInRange s ≡ true → 1 ≤ s .«min_base_quality_score»
 unfolding settingsInRange

@@ -23,9 +23,9 @@ use Rattle.activity_profile.specs.Pop.{PopAnswer, refusedPop, Turn, empty, held
 use Rattle.activity_profile.specs.Run.{afterPop}
 use Rattle.activity_profile.proofs.Facts.{Whole}
 use Rattle.activity_profile.proofs.Unbroken.{whole-not}
-use Rattle.region_stream.specs.declared.StreamSettings.{StreamSettings}
-use Rattle.region_stream.specs.Settings.{rangedOf, withField}
-use Rattle.region_stream.specs.Program.{bufferSize}
+use Rattle.stream_settings.specs.declared.StreamSettings.{StreamSettings}
+use Rattle.stream_settings.specs.Settings.{rangedOf, withField}
+use Rattle.stream_state.specs.Program.{bufferSize}
 use Rattle.stream_laws.specs.Reach.{Possible, setting, word, depth, offTheContig, notTheNext, tooFewCells, zeroSize}
 
 -- an add that is refused, of a record that is whole, on its own contig, of a probability

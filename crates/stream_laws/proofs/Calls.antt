@@ -8,9 +8,9 @@ use Rattle.activity_profile.specs.declared.ActivityProfileRegion.{ActivityProfi
 use Rattle.activity_profile.specs.Loci.{loci}
 use Rattle.activity_profile.specs.Making.{making}
 use Rattle.activity_profile.specs.Run.{Call, Lent, step, after, acceptedBy, acceptedIn, poppedBy, poppedIn}
-use Rattle.region_stream.specs.declared.StreamSettings.{StreamSettings}
-use Rattle.region_stream.specs.Settings.{paramsOf}
-use Rattle.region_stream.specs.Program.{Reading, bufferSize, popped}
+use Rattle.stream_settings.specs.declared.StreamSettings.{StreamSettings}
+use Rattle.stream_settings.specs.Settings.{paramsOf}
+use Rattle.stream_state.specs.Program.{Reading, bufferSize, popped}
 use Rattle.stream_laws.specs.Reach.{linesLoci, OfCalls}
 
 -- ---- one call more

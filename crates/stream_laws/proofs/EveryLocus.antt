@@ -16,11 +16,11 @@ use Rattle.activity_profile.specs.Add.{at, AddAnswer, refusedAdd, acceptedAdd, 
 use Rattle.activity_profile.specs.Pop.{PopAnswer, refusedPop, emptyPop, heldPop, regionPop, popAnswer, popCells}
 use Rattle.activity_profile.specs.Run.{Call, Add, Pop, Lent, step, after, acceptedBy, acceptedIn, poppedBy, poppedIn, Faithful}
 use Rattle.activity_profile.proofs.Demand3.{demand-3}
-use Rattle.region_stream.specs.declared.StreamSettings.{StreamSettings}
-use Rattle.region_stream.specs.Settings.{paramsOf, fieldOf, valueOf, withField}
-use Rattle.region_stream.specs.Program.{Reading, Place, atSettings, atLoci, inPile, Ending, goesOn, stopsAt, Answer, goes, line, stops, next, moved, holding, bufferSize, kindOf, addedOutcome, pileScore, scoreAdded, scoreCells, endedWith, endPile, andThen, opening, madeWith, openedAt, opened, deepened, observedAt, observed, popMade, popAt, poppedFor, popped, setBy, setAt, look, endedBy, lookBy}
-use Rattle.region_stream.specs.Program.{poppedBy as popAnswered}
-use Rattle.region_stream.specs.Stream.{start}
+use Rattle.stream_settings.specs.declared.StreamSettings.{StreamSettings}
+use Rattle.stream_settings.specs.Settings.{paramsOf, fieldOf, valueOf, withField}
+use Rattle.stream_state.specs.Program.{Reading, Place, atSettings, atLoci, inPile, Ending, goesOn, stopsAt, Answer, goes, line, stops, next, moved, holding, bufferSize, kindOf, addedOutcome, pileScore, scoreAdded, scoreCells, endedWith, endPile, andThen, opening, madeWith, openedAt, opened, deepened, observedAt, observed, popMade, popAt, poppedFor, popped, setBy, setAt, look, endedBy, lookBy}
+use Rattle.stream_state.specs.Program.{poppedBy as popAnswered}
+use Rattle.stream_state.specs.Stream.{start}
 use Rattle.stream_laws.specs.Reach.{readAt, readBy, Reached, nothing-yet, going, printing, linesLoci, OfCalls}
 use Rattle.stream_laws.proofs.Calls.{more, loci-more}
 use Rattle.stream_laws.proofs.Scores.{score-of, past, loci-past, pile-past}

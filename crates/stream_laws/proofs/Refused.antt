@@ -22,13 +22,13 @@ use Rattle.activity_profile.proofs.Fresh.{fresh-is, length-kernel}
 use Rattle.activity_profile.proofs.Unbroken.{whole-not, step-whole, fresh-whole}
 use Rattle.genotype_likelihoods.specs.Settings.{defaults}
 use Rattle.activity_scoring.proofs.Probability.{score-never-8}
-use Rattle.region_stream.specs.declared.StreamSettings.{StreamSettings}
-use Rattle.region_stream.specs.Settings.{paramsOf, fieldOf, valueOf, withField}
-use Rattle.region_stream.specs.Program.{Reading, Place, atSettings, atLoci, inPile, Ending, goesOn, stopsAt, Answer, goes, line, stops, next, moved, holding, bufferSize, kindOf, addedOutcome, pileScore, scoreAdded, scoreCells, endedWith, endPile, andThen, madeWith, openedAt, opened, observedAt, observed, popMade, popAt, poppedFor, popped, setBy, setAt, look, remaining, atEnd, Printed, closed, looks, program, endedBy, lookBy}
-use Rattle.region_stream.specs.Program.{poppedBy as popAnswered}
-use Rattle.region_stream.specs.Stream.{start}
+use Rattle.stream_settings.specs.declared.StreamSettings.{StreamSettings}
+use Rattle.stream_settings.specs.Settings.{paramsOf, fieldOf, valueOf, withField}
+use Rattle.stream_state.specs.Program.{Reading, Place, atSettings, atLoci, inPile, Ending, goesOn, stopsAt, Answer, goes, line, stops, next, moved, holding, bufferSize, kindOf, addedOutcome, pileScore, scoreAdded, scoreCells, endedWith, endPile, andThen, madeWith, openedAt, opened, observedAt, observed, popMade, popAt, poppedFor, popped, setBy, setAt, look, remaining, atEnd, Printed, closed, looks, program, endedBy, lookBy}
+use Rattle.stream_state.specs.Program.{poppedBy as popAnswered}
+use Rattle.stream_state.specs.Stream.{start}
 use Rattle.stream_laws.specs.Reach.{Possible, word, zeroSize, ClosePossible}
-use Rattle.region_stream.proofs.Kept.{filter-popped}
+use Rattle.stream_state.proofs.Kept.{filter-popped}
 use Rattle.stream_laws.proofs.Scores.{score-of, score-refused, past, loci-past, pile-past}
 use Rattle.stream_laws.proofs.CallRefusals.{add-refused, making-refused, set-refused, pop-refused, pop-contig}
 

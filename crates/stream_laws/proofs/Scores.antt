@@ -14,7 +14,7 @@ use Rattle.activity_profile.specs.Add.{at}
 use Rattle.genotype_likelihoods.specs.Settings.{defaults}
 use Rattle.activity_scoring.specs.Mean.{meanOf}
 use Rattle.activity_scoring.specs.Score.{inRange, maxDepth, allObservations, evidenceOf, activityOf, state, stateWith, stateOf, scoreWith, scoreOf}
-use Rattle.region_stream.specs.Program.{Reading, Place, atSettings, atLoci, inPile, pileScore}
+use Rattle.stream_state.specs.Program.{Reading, Place, atSettings, atLoci, inPile, pileScore}
 use Rattle.stream_laws.specs.Reach.{Possible, setting, word, depth}
 
 -- ---- a score

@@ -11,8 +11,8 @@ use Rattle.activity_profile.specs.declared.ActivityProfileRegion.{ActivityProfi
 use Rattle.activity_profile.specs.Loci.{loci}
 use Rattle.activity_profile.specs.Making.{making}
 use Rattle.activity_profile.specs.Run.{Call, after, acceptedIn, poppedIn}
-use Rattle.region_stream.specs.Settings.{paramsOf}
-use Rattle.region_stream.specs.Program.{Reading, Place, atSettings, atLoci, inPile, goes, line, kindOf, look, bufferSize, Close, finished, refusedAt}
+use Rattle.stream_settings.specs.Settings.{paramsOf}
+use Rattle.stream_state.specs.Program.{Reading, Place, atSettings, atLoci, inPile, goes, line, kindOf, look, bufferSize, Close, finished, refusedAt}
 
 -- the locus that is read where a pile ends: "A pile is scored and added when it ends, which is before the next kind 0 or 2 word .. is looked at"
 abbrev pub readAt : Place → List ℕ

@@ -2,7 +2,7 @@
 use Prim.Native.Nat.{_*_, _+_, _-_, _≤_}
 use borrow.Author.Needs.{needs}
 use native.Mathlib.Omega.{arith}
-use Rattle.region_stream.specs.Stream.{looksLeft}
+use Rattle.stream_state.specs.Stream.{looksLeft}
 use Rattle.region.proofs.feed.Statement.{statement}
 use Rattle.region.proofs.feed.Tie as tie
 

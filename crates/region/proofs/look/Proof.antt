@@ -1,6 +1,6 @@
 -- `look` goes to the next word, or leaves fewer looks at this one (`LinesEnd`).
-use Rattle.region_stream.proofs.Lines.{looks-few}
-use Rattle.region_stream.specs.Stream.{LinesEnd}
+use Rattle.stream_state.proofs.Lines.{looks-few}
+use Rattle.stream_state.specs.Stream.{LinesEnd}
 use borrow.Author.Needs.{needs}
 use mathlib.Core.Path.{subst}
 use native.Mathlib.Omega.{arith}

@@ -3,7 +3,7 @@ use mathlib.Core.Bool.{Bool, _&&_, false, not, true}
 use mathlib.Core.Path.{_∙_, _≡_, ap, sym}
 use Rattle.activity_scoring.specs.Mean.{counts, withWord}
 use Rattle.genotype_likelihoods.specs.Observation.{effectiveQual, skips}
-use Rattle.genotype_likelihoods.specs.declared.PileupObservation.{PileupObservation}
+use Rattle.pileup_words.specs.declared.PileupObservation.{PileupObservation}
 use borrow.Author.Needs.{needs}
 use Rattle.activity_scoring.proofs.mean.with_word.Statement.{statement}
 use Rattle.activity_scoring.proofs.mean.with_word.Tie as tie

@@ -33,7 +33,7 @@ within-f64-requires-3 c κs = search needs
 
 returns : tie.Need-returns
 unfolding settingsInRange
-returns c = cc
+returns c = simp (c .within-f643 .ensures, c .before .within-f642 .ensures, c .before .before .within-f64 .ensures, c .before .before .before .within-u323 .ensures, c .before .before .before .before .before .within-u322 .ensures, c .before .before .before .before .before .before .before .within-u32 .ensures)
 
 pub in-range-spec : {M : Type 1} → statement M
 in-range-spec =

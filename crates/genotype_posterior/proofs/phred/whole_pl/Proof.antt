@@ -1,6 +1,6 @@
 -- `whole_pl` meets its contract: the wider cast, cut.
 use native.Mathlib.Omega.{arith}
-use Rattle.math_utils.specs.Casts.{narrower}
+use Rattle.numbers.specs.Casts.{narrower}
 use borrow.Author.Needs.{needs}
 use Rattle.genotype_posterior.proofs.phred.whole_pl.Statement.{statement}
 use Rattle.genotype_posterior.proofs.phred.whole_pl.Tie as tie

@@ -1,6 +1,6 @@
 -- `append` is safe: the buffer has room for a whole text.
 use Prim.Native.Nat.{_+_, _-_, _≤_}
-use Rattle.region_stream.specs.Stream.{start}
+use Rattle.stream_state.specs.Stream.{start}
 use borrow.Author.Needs.{needs}
 use native.Mathlib.Omega.{arith}
 use Rattle.region.proofs.output.append.Statement.{statement}

@@ -1,6 +1,6 @@
 -- `text` ends: it goes through the bytes once.
 use Prim.Native.Nat.{_-_}
-use Rattle.region_stream.specs.Stream.{start}
+use Rattle.stream_state.specs.Stream.{start}
 use borrow.Author.Needs.{needs}
 use Rattle.replay_region.proofs.expected.Expected.text.Statement.{statement}
 use Rattle.replay_region.proofs.expected.Expected.text.Tie as tie

@@ -1,3 +1,0 @@
-pub mod Casts
-pub mod Pair
-pub mod Sums

@@ -1,0 +1,139 @@
+// Popping a region.
+use crate::cut::move_to_front;
+use crate::cut::region_size;
+use activity_profile::ActivityProfileRegion;
+use activity_profile::BandPassActivityProfile;
+use activity_profile::Popped;
+use genome::Refusal;
+use numbers::greater;
+use numbers::lesser;
+use numbers::monus;
+use profile_record::is_broken;
+ghost use mathlib.Core.Path.{_≡_};
+ghost use Prim.Native.Nat.{_+_, _-_, _≤_};
+ghost use lib.ListN.{length};
+ghost use Rattle.activity_profile.specs.Verdict.{granted};
+ghost use Rattle.activity_profile.specs.Pop.{kept, regionOf, rest, popVerdict, turn, ready, tooFew, popAnswerOf, popAnswerBy, popCellsBy, popAnswer, popCells};
+
+// Pops the next region that is ready, from the cells that are lent with the record. Refuses a broken record, then a region size of 0.
+pub fn try_pop_next_ready_region(
+    p: BandPassActivityProfile,
+    cells: &mut [f64],
+    assembly_region_extension: u32,
+    min_region_size: u32,
+    max_region_size: u32,
+    force_conversion: bool,
+) -> Popped
+    ensures { λ r. ⌜ popAnswerOf r ≡ popAnswer p (now (cells .entry)) «assembly_region_extension» «min_region_size» «max_region_size» «force_conversion» ⌝ }
+    ensures { λ _. ⌜ now (cells .exit) ≡ popCells p (now (cells .entry)) «min_region_size» «max_region_size» «force_conversion» ⌝ }
+{
+    if is_broken(p, cells.len()) {
+        return Popped::Refused(Refusal::BrokenProfile, p);
+    }
+    if (min_region_size == 0) | (max_region_size == 0) {
+        return Popped::Refused(Refusal::ZeroSize, p);
+    }
+    if p.count == 0 {
+        return Popped::Empty(p);
+    }
+    if is_held(p, max_region_size, force_conversion) {
+        return Popped::Held(p);
+    }
+    pop_ready(
+        p,
+        cells,
+        assembly_region_extension,
+        min_region_size,
+        max_region_size,
+        force_conversion,
+    )
+}
+
+// Whether an unforced pop has too few cells: the count is below max + D.
+fn is_held(p: BandPassActivityProfile, most: u32, forced: bool) -> bool
+    ensures { λ r. ⌜ r ≡ tooFew p most forced ⌝ }
+{
+    !forced
+        & ((p.count as u64)
+            < most as u64 + (p.max_prob_propagation_distance as u64 + p.filter_size as u64))
+}
+
+// The pop that answers a region.
+fn pop_ready(
+    p: BandPassActivityProfile,
+    cells: &mut [f64],
+    extension: u32,
+    least: u32,
+    most: u32,
+    forced: bool,
+) -> Popped
+    requires { ⌜ (popVerdict p (length (now cells)) least most ≡ granted) × (turn p most forced ≡ ready) ⌝ }
+    ensures { λ r. ⌜ popAnswerOf r ≡ popAnswerBy granted ready p (now (cells .entry)) extension least most forced ⌝ }
+    ensures { λ _. ⌜ now (cells .exit) ≡ popCellsBy granted ready p (now (cells .entry)) least most forced ⌝ }
+{
+    let keep = kept_cells(p, forced);
+    let active = cells[0] > p.active_prob_threshold;
+    let size = region_size(
+        &cells[..keep],
+        p.active_prob_threshold,
+        least as usize,
+        most as usize,
+    );
+    let left = keep - size;
+    let region = region_of(p, active, size, extension);
+    let next = rest_of(p, size, left);
+    move_to_front(cells, size, left, p.count as usize);
+    Popped::Ready(region, next)
+}
+
+// How many cells a pop looks at: a forced one keeps max(last - start, 0) + 1 at most, so that no locus past the last input is handed out.
+fn kept_cells(p: BandPassActivityProfile, forced: bool) -> usize
+    ensures { λ r. ⌜ r ≡ kept p forced ⌝ }
+{
+    if forced {
+        let reach = monus(p.last_input_pos as u64, p.region_start as u64) + 1;
+        return lesser(p.count as u64, reach) as usize;
+    }
+    p.count as usize
+}
+
+// The region, its padding clamped to 1 and the contig length.
+fn region_of(
+    p: BandPassActivityProfile,
+    active: bool,
+    size: usize,
+    extension: u32,
+) -> ActivityProfileRegion
+    requires { ⌜ (1 ≤ p .«region_start») × (1 ≤ size) × (p .«region_start» + size - 1 ≤ p .«contig_len») ⌝ }
+    ensures { λ r. ⌜ r ≡ regionOf p active size extension ⌝ }
+{
+    let end = p.region_start as u64 + size as u64 - 1;
+    let low = greater(1, monus(p.region_start as u64, extension as u64));
+    let high = lesser(p.contig_len as u64, end + extension as u64);
+    ActivityProfileRegion {
+        contig: p.contig,
+        start: p.region_start,
+        end: end as u32,
+        is_active: active,
+        padded_start: low as u32,
+        padded_end: high as u32,
+        extension,
+    }
+}
+
+// The record once the region is gone and `left` cells are left.
+fn rest_of(p: BandPassActivityProfile, size: usize, left: usize) -> BandPassActivityProfile
+    requires { ⌜ (1 ≤ p .«region_start») × (size + left ≤ p .count) × (p .«region_start» + p .count - 1 ≤ p .«contig_len») ⌝ }
+    ensures { λ r. ⌜ r ≡ rest p size left ⌝ }
+{
+    let mut next = p;
+    if left == 0 {
+        next.region_start = 0;
+        next.last_input_pos = 0;
+        next.count = 0;
+        return next;
+    }
+    next.region_start = (p.region_start as u64 + size as u64) as u32;
+    next.count = left as u32;
+    next
+}

@@ -1,0 +1,5 @@
+pub mod Program
+pub mod Feeding
+pub mod Stream
+pub mod Tables
+pub mod Run
