@@ -2,9 +2,10 @@
 use mathlib.Core.Bool.{Bool, cond, not, _&&_}
 use mathlib.Core.List.{List, _++_}
 use Prim.Native.Nat.{ℕ}
-use lib.Dec.{leb, eqb}
+use lib.Dec.{leb, ltb, eqb}
 use lib.ListN.{length, drop}
-use lib.Ieee.{Float, binary64, ofBits, le}
+use lib.Ieee.{Float, binary64, ofBits}
+use Rattle.numbers.specs.Ranges.{between, within}
 use Rattle.genome.specs.Refusals.{Outcome, refused, answered, numberOf}
 use Rattle.genome.specs.Ranges.{isProbability}
 use Rattle.band_pass_kernel.specs.declared.BandPassActivityProfileParams.{BandPassActivityProfileParams}
@@ -13,19 +14,22 @@ use Rattle.band_pass_kernel.specs.declared.ResolvedFilter.the-variants.{
 use Rattle.band_pass_kernel.specs.Kernel.{band, gaussianKernel, adaptiveFilterSize}
 
 -- "propagation distance 0 to 1,000,000"
+abbrev pub maxDistance : ℕ
+maxDistance = 1_000_000
+
 abbrev pub isDistance : ℕ → Bool
-isDistance n = leb 0 n && leb n 1_000_000
+isDistance n = between 0 n maxDistance
 
 -- "max filter 0 to 500"
 abbrev pub maxFilter : ℕ
 maxFilter = 500
 
 abbrev pub isFilter : ℕ → Bool
-isFilter n = leb 0 n && leb n maxFilter
+isFilter n = between 0 n maxFilter
 
 -- "sigma 1/64 to 4,096"
 abbrev pub isSigma : Float → Bool
-isSigma x = le (ofBits binary64 0x3f90_0000_0000_0000) x && le x (ofBits binary64 0x40b0_0000_0000_0000)
+isSigma x = within (ofBits binary64 0x3f90_0000_0000_0000) x (ofBits binary64 0x40b0_0000_0000_0000)
 
 -- 0.00001
 abbrev pub minProbToKeep : Float
@@ -74,3 +78,10 @@ unfoldable pub narrowAfter : BandPassActivityProfileParams → ℕ → List Floa
 narrowAfter s n narrow =
     let f = filterSize s in
     cond (accepted s n (length narrow)) (cond (eqb f (s .«max_filter_size»)) narrow (writtenTo narrow (band f) (gaussianKernel f (s .sigma)))) narrow
+
+-- a kernel copied to the front of a slice; one that is too short is left as it is
+unfoldable pub copied : List Float → List Float → List Float
+copied kernel l = cond (ltb (length l) (length kernel)) l (writtenTo l (length kernel) kernel)
+
+abbrev pub copiedLength : ℕ → ℕ → ℕ
+copiedLength n room = cond (ltb room n) 0 n

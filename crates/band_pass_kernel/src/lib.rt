@@ -7,6 +7,8 @@ pub use gaussian::adaptive_filter_size;
 pub use gaussian::make_gaussian_kernel;
 pub use gaussian::normal_distribution;
 use genome::Refusal;
+pub use resolve::copy_kernel;
+pub use resolve::kernel_in;
 
 // The settings of a band-pass profile.
 pub struct BandPassActivityProfileParams {

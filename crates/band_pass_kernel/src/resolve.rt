@@ -6,11 +6,12 @@ use crate::gaussian::make_gaussian_kernel;
 use genome::Refusal;
 ghost use mathlib.Core.Path.{_≡_};
 ghost use mathlib.Core.Bool.{true, cond};
-ghost use Prim.Native.Nat.{_+_, _*_, _≤_};
+ghost use Prim.Native.Nat.{_≤_};
 ghost use lib.Dec.{eqb};
 ghost use lib.ListN.{length, take};
 ghost use Rattle.band_pass_kernel.specs.Kernel.{band, gaussianKernel};
-ghost use Rattle.band_pass_kernel.specs.Resolve.{inRange, hasRoom, accepted, filterSize, resolutionOf, resolution, writtenTo, fullAfter, narrowAfter};
+ghost use Rattle.band_pass_kernel.specs.Resolve.{inRange, hasRoom, accepted, filterSize, resolutionOf, resolution};
+ghost use Rattle.band_pass_kernel.specs.Resolve.{writtenTo, fullAfter, narrowAfter, copied, copiedLength};
 ghost use Rattle.band_pass_kernel.specs.Facts.{FullKernel};
 
 impl BandPassActivityProfileParams {
@@ -52,11 +53,10 @@ impl BandPassActivityProfileParams {
     ) -> &'a [f64]
         ensures { λ r. ⌜ now r ≡ take (band «filter_size») (cond (eqb «filter_size» (self .«max_filter_size»)) (now (full .entry)) (now (narrow .entry))) ⌝ }
     {
-        let n = band_of(filter_size);
         if filter_size == self.max_filter_size {
-            return front(full, n);
+            return kernel_in(full, filter_size);
         }
-        front(narrow, n)
+        kernel_in(narrow, filter_size)
     }
 
     // Whether every setting is in its range.
@@ -104,7 +104,7 @@ impl BandPassActivityProfileParams {
         ensures { λ r. ⌜ (r ≡ filterSize self) × (r ≤ self .«max_filter_size») ⌝ }
     {
         if self.adaptive_filter_size {
-            let kernel = front(full, band_of(self.max_filter_size));
+            let kernel = kernel_in(full, self.max_filter_size);
             return adaptive_filter_size(kernel, Self::MIN_PROB_TO_KEEP_IN_FILTER) as u32;
         }
         self.max_filter_size
@@ -127,12 +127,29 @@ fn band_of(filter_size: u32) -> usize
     2 * (filter_size as usize) + 1
 }
 
-// The first n entries, or all where there are fewer.
-fn front<'a>(s: &'a [f64], n: usize) -> &'a [f64]
-    ensures { λ r. ⌜ now r ≡ take n (now (s .entry)) ⌝ }
+// The kernel of a filter size at the front of a buffer: its first 2F + 1 entries, or all where there are fewer.
+pub fn kernel_in<'a>(buffer: &'a [f64], filter_size: u32) -> &'a [f64]
+    ensures { λ r. ⌜ now r ≡ take (band «filter_size») (now (buffer .entry)) ⌝ }
 {
-    if n <= s.len() {
-        return &s[..n];
+    let n = band_of(filter_size);
+    if n <= buffer.len() {
+        return &buffer[..n];
     }
-    s
+    buffer
+}
+
+// Copies a kernel to the front of a slice, and answers its length. A slice that is too short is left as it is, and the answer is 0.
+pub fn copy_kernel(to: &mut [f64], kernel: &[f64]) -> usize
+    ensures { λ r. ⌜ r ≡ copiedLength (length (now (kernel .entry))) (length (now (to .entry))) ⌝ }
+    ensures { λ _. ⌜ now (to .exit) ≡ copied (now (kernel .entry)) (now (to .entry)) ⌝ }
+{
+    if to.len() < kernel.len() {
+        return 0;
+    }
+    let mut i = 0;
+    while i < kernel.len() {
+        to[i] = kernel[i];
+        i += 1;
+    }
+    kernel.len()
 }

@@ -1,12 +1,13 @@
--- 01, The region program: "Kind 3, only before the first locus: bits 29-24 field, 23-0 value".
-use mathlib.Core.Bool.{true, cond, _&&_}
-use Prim.Native.Nat.{ℕ, _/_, _%_}
-use lib.Dec.{leb, eqb}
+-- 01, The region program: what kind 3 words set.
+use mathlib.Core.Bool.{true, cond}
+use Prim.Native.Nat.{ℕ}
+use lib.Dec.{eqb}
 use lib.Ieee.{binary64, ofBits}
+use Rattle.numbers.specs.Ranges.{between}
 use Rattle.genome.specs.Refusals.{Outcome, refused, answered, numberOf}
 use Rattle.genome.specs.Ranges.{maxPosition}
 use Rattle.band_pass_kernel.specs.declared.BandPassActivityProfileParams.{BandPassActivityProfileParams}
-use Rattle.band_pass_kernel.specs.Resolve.{maxFilter}
+use Rattle.band_pass_kernel.specs.Resolve.{maxDistance, maxFilter}
 use Rattle.stream_settings.specs.declared.StreamSettings.{StreamSettings}
 use Rattle.stream_settings.specs.declared.Setting.{Setting}
 use Rattle.stream_settings.specs.declared.Setting.the-variants.{Set, Refused}
@@ -23,7 +24,7 @@ settings most least extension distance filter length = record {
 
 -- "fields 1 max (default 300), 2 min (50), 3 extension (100), 4 distance (50), 5 max filter (50), 6 contig length (1,073,741,823)"
 abbrev pub defaults : StreamSettings
-defaults = settings 300 50 100 50 50 maxPosition
+defaults = settings 300 50 100 50 50 1_073_741_823
 
 -- "Sigma 17, threshold 0.002, adaptive"
 abbrev pub paramsOf : StreamSettings → BandPassActivityProfileParams
@@ -35,16 +36,9 @@ paramsOf s = record {
   «adaptive_filter_size» = true;
 }
 
--- "bits 29-24 field, 23-0 value"
-abbrev pub fieldOf : ℕ → ℕ
-fieldOf w = w / 0x0100_0000 % 64
-
-abbrev pub valueOf : ℕ → ℕ
-valueOf w = w % 0x0100_0000
-
 -- "Values are range-checked, and refused 1, at their word"
 abbrev pub rangedOf : StreamSettings → ℕ → ℕ → ℕ → Outcome StreamSettings
-rangedOf s low value high = cond (leb low value && leb value high) (answered s) (refused 1)
+rangedOf s low value high = cond (between low value high) (answered s) (refused 1)
 
 -- "a repeated field replaces"; a field that there is not is one of "Any other word .. refused 3"
 unfoldable pub withField : StreamSettings → ℕ → ℕ → Outcome StreamSettings
@@ -58,7 +52,7 @@ withField s field v =
     cond (eqb field 1) (answered (settings v least extension distance filter length))
     (cond (eqb field 2) (answered (settings most v extension distance filter length))
     (cond (eqb field 3) (answered (settings most least v distance filter length))
-    (cond (eqb field 4) (rangedOf (settings most least extension v filter length) 0 v 1_000_000)
+    (cond (eqb field 4) (rangedOf (settings most least extension v filter length) 0 v maxDistance)
     (cond (eqb field 5) (rangedOf (settings most least extension distance v length) 0 v maxFilter)
     (cond (eqb field 6) (rangedOf (settings most least extension distance filter v) 1 v maxPosition)
     (refused 3))))))

@@ -1,5 +1,5 @@
-// What kind 3 words set in a stream of words: the settings, their defaults, and what each word does to them. No public function has a `requires`.
-mod set;
+// The settings of a stream: their defaults, and what a setting's word does to them. No public function has a `requires`.
+mod settings;
 
 use genome::Refusal;
 

@@ -13,32 +13,29 @@ use Rattle.band_pass_kernel.proofs.BandPassActivityProfileParams.filter
 use Rattle.band_pass_kernel.proofs.BandPassActivityProfileParams.filter_size.Tie as tie
 
 -- the part handed on is the full kernel
-kernel-is : (c : tie.After-front) → let a = c .before .before .before .before .args in
-    c .front .result .now ≡ gaussianKernel (a .self .«max_filter_size») (a .self .sigma)
-kernel-is c = c .front .ensures ∙ rw (c .before .band-of .ensures) (c .before .before .before .before .pre .kernel)
+kernel-is : (c : tie.After-kernel-in) → let a = c .before .before .before .args in
+    c .kernel-in .result .now ≡ gaussianKernel (a .self .«max_filter_size») (a .self .sigma)
+kernel-is c = c .kernel-in .ensures ∙ c .before .before .before .pre .kernel
 
 -- so its middle is max filter
-middle-is : (c : tie.After-front) → let a = c .before .before .before .before .args in (length (c .front .result .now) - 1) / 2 ≡ a .self .«max_filter_size»
+middle-is : (c : tie.After-kernel-in) → let a = c .before .before .before .args in (length (c .kernel-in .result .now) - 1) / 2 ≡ a .self .«max_filter_size»
 middle-is c =
-    let a = c .before .before .before .before .args in
+    let a = c .before .before .before .args in
     omega (arith, ap length (kernel-is c), length-gaussian (a .self .«max_filter_size») (a .self .sigma) (band (a .self .«max_filter_size»)))
 
-band-of-requires : tie.Need-band-of-requires
-band-of-requires c κs = search needs
-
-front-requires : tie.Need-front-requires
-front-requires c κs = search needs
+kernel-in-requires : tie.Need-kernel-in-requires
+kernel-in-requires c κs = search needs
 
 adaptive-filter-size-requires : tie.Need-adaptive-filter-size-requires
 adaptive-filter-size-requires c κs = search needs
 
 cast-result : tie.Need-cast-result
-cast-result c = omega (arith, c .adaptive-filter-size .ensures .1, middle-is (c .before), c .before .before .before .before .before .pre .few)
+cast-result c = omega (arith, c .adaptive-filter-size .ensures .1, middle-is (c .before), c .before .before .before .before .pre .few)
 
 returns : tie.Need-returns
 unfolding filterSize
 returns c =
-    let at = c .before .before .before in
+    let at = c .before .before in
     (simp (at .if1 .taken) (c .adaptive-filter-size .ensures .0 ∙ ap (λ (k : List Float). adaptiveFilterSize k minProbToKeep) (kernel-is (c .before))), omega (arith, c .adaptive-filter-size .ensures .1, middle-is (c .before)))
 
 returns-2 : tie.Need-returns-2
@@ -49,8 +46,7 @@ pub filter-size-spec : {M : Type 1} → statement M
 filter-size-spec =
     tie.close
     (tie.spec
-    band-of-requires
-    front-requires
+    kernel-in-requires
     adaptive-filter-size-requires
     cast-result
     returns

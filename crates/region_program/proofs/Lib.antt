@@ -1,0 +1,13 @@
+pub mod Kept
+pub mod Counts
+pub mod Acts
+pub mod Feeding
+pub mod Depth
+pub mod Refusing
+pub mod Calls
+pub mod CallRefusals
+pub mod Scores
+pub mod EveryLocus
+pub mod Refused
+pub mod Runs
+pub mod Steps

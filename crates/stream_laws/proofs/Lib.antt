@@ -1,5 +1,0 @@
-pub mod Scores
-pub mod Calls
-pub mod EveryLocus
-pub mod CallRefusals
-pub mod Refused

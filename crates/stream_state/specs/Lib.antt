@@ -1,5 +1,0 @@
-pub mod Program
-pub mod Feeding
-pub mod Stream
-pub mod Tables
-pub mod Run
