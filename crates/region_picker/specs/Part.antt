@@ -3,10 +3,8 @@ use mathlib.Core.Bool.{Bool, cond}
 use mathlib.Core.List.{List, [], _∷_}
 use mathlib.Core.Path.{_≡_, refl}
 use Prim.Native.Nat.{ℕ}
-use lib.Dec.{ltb}
-use lib.ListN.{length, getD}
-use lib.Ieee.{Float, nan}
-use Rattle.lists.specs.Each.{each}
+use lib.ListN.{getD}
+use lib.Ieee.{Float}
 use Rattle.genome.specs.Refusals.{Outcome, refused, answered}
 use Rattle.band_pass_kernel.specs.declared.BandPassActivityProfileParams.{BandPassActivityProfileParams}
 use Rattle.activity_profile.specs.declared.BandPassActivityProfile.{BandPassActivityProfile}
@@ -124,14 +122,3 @@ popRegion (refusedPop n p) old = old
 popRegion (emptyPop p) old = old
 popRegion (heldPop p) old = old
 popRegion (regionPop r p) old = regionFields r
-
--- ---- the kernel, copied to the front of a slice; one that is too short is left as it is
-
-abbrev pub copiedEntry : List Float → ℕ → Float → Float
-copiedEntry kernel i x = cond (ltb i (length kernel)) (getD kernel i nan) x
-
-unfoldable pub copied : List Float → List Float → List Float
-copied kernel l = cond (ltb (length l) (length kernel)) l (each (copiedEntry kernel) l)
-
-abbrev pub copiedLength : ℕ → ℕ → ℕ
-copiedLength n cells = cond (ltb cells n) 0 n

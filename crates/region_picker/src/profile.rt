@@ -20,7 +20,8 @@ ghost use Rattle.band_pass_kernel.specs.Kernel.{band};
 ghost use Rattle.activity_profile.specs.Making.{making, fullAfterMaking, narrowAfterMaking};
 ghost use Rattle.activity_profile.specs.Add.{addAnswer, addCells};
 ghost use Rattle.activity_profile.specs.Pop.{popAnswer, popCells};
-ghost use Rattle.region_picker.specs.Part.{recordOf, profileOf, regionFields, evidenceFrom, stateFrom, paramsFrom, outcomeNumber, outcomeWritten, addNumber, addRecord, popNumber, popRecord, popRegion, copied, copiedLength};
+ghost use Rattle.region_picker.specs.Part.{recordOf, profileOf, regionFields, evidenceFrom, stateFrom, paramsFrom, outcomeNumber, outcomeWritten, addNumber, addRecord, popNumber, popRecord, popRegion};
+ghost use Rattle.band_pass_kernel.specs.Resolve.{copied, copiedLength};
 
 // Makes an empty profile of a contig: its numbers are written to `profile`, and its kernel stands in one of the two buffers. Answers 0, or the number of a
 // refusal, which writes nothing.
@@ -79,7 +80,10 @@ pub extern "C" fn region_picker_kernel<'a>(
         sigma: 1.0,
         adaptive_filter_size: false,
     };
-    copy(kernel, params.normalized_kernel(filter_size, full, narrow))
+    band_pass_kernel::copy_kernel(
+        kernel,
+        params.normalized_kernel(filter_size, full, narrow),
+    )
 }
 
 // Adds the next locus. Answers 0, or the number of a refusal, which writes nothing.
@@ -213,19 +217,4 @@ fn evidence_from(has_clips: bool, clip_bases: u32) -> ActivityEvidence
         return ActivityEvidence::HighQualitySoftClips { clip_bases };
     }
     ActivityEvidence::Plain
-}
-
-fn copy(to: &mut [f64], from: &[f64]) -> usize
-    ensures { λ r. ⌜ r ≡ copiedLength (length (now (from .entry))) (length (now (to .entry))) ⌝ }
-    ensures { λ _. ⌜ now (to .exit) ≡ copied (now (from .entry)) (now (to .entry)) ⌝ }
-{
-    if to.len() < from.len() {
-        return 0;
-    }
-    let mut i = 0;
-    while i < from.len() {
-        to[i] = from[i];
-        i += 1;
-    }
-    from.len()
 }

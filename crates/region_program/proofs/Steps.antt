@@ -2,7 +2,7 @@
 use mathlib.Core.Path.{_≡_, refl, sym, ap, _∙_}
 use mathlib.Core.Bool.{Bool, true, false, cond}
 use mathlib.Core.List.{List, []}
-use Prim.Native.Nat.{ℕ, _-_, _^_, _<_}
+use Prim.Native.Nat.{ℕ, _≤_, _<_}
 use native.Mathlib.Omega.{arith}
 use borrow.Author.Tests.{le-ltb}
 use lib.Dec.{ltb, eqb}
@@ -29,7 +29,7 @@ use Rattle.region_program.specs.declared.Phase.the-variants.{Settings, L
 use Rattle.region_program.specs.declared.Step.the-variants.{Next, Again, Line, Refused}
 use Rattle.region_program.specs.Program.{Reading, inPile, goes, again, line, stops, next, bufferSize, profileMade, madeWith, zeroSize, setBy, beforeLoci, poppedBy, betweenPiles}
 use Rattle.region_program.specs.Program.{Scoring, scoreAdded, scoreCells, endedWith, endedBy, withinPile, actAt, actBy}
-use Rattle.region_program.specs.Stream.{placeOf, kernelOf, seen, streamOf, mostActs, pileAfter, kernelMade, kernelAfter, Stepped, EndsPile, PILE, kept}
+use Rattle.region_program.specs.Stream.{placeOf, kernelOf, seen, streamOf, mostActs, actsIn, actsLeft, pileAfter, kernelMade, kernelAfter, Stepped, EndsPile, PILE, kept}
 use Rattle.region_program.specs.Run.{keptMore}
 use Rattle.region_program.proofs.Counts.{fewer}
 use Rattle.region_program.proofs.Kept.{filter-popped, cells-popped, filter-scored, cells-scored}
@@ -200,3 +200,13 @@ module _ (scoring : Scoring) (s : RegionStream) (pile : List ℕ) (kernel cells 
     pub ended-refused : (y : Refusal) → scored-so ≡ refused (numberOf y) → EndsPile scoring s l i d pile kernel cells scored-cells (Refused y i s)
     unfolding endedBy endedWith
     ended-refused y e = rw (cells-scored (s .profile) cells (take (band (s .profile .«filter_size»)) kernel) (scoring l (take d pile)) (numberOf y) e) (record { answer = rw (p, e); ends = refl })
+
+-- ---- the end of a caller's loop
+
+pub acts-few : (s : RegionStream) → actsLeft s ≤ mostActs
+acts-few s = go (s .phase) (s .profile .count)
+  where
+    go : (x : Phase) (n : ℕ) → actsIn x n ≤ mostActs
+    go Settings n = omega arith
+    go Loci n = omega arith
+    go (Pile p i d) n = omega arith

@@ -1,24 +1,28 @@
 -- `run` ends: it counts its blocks down.
-use Prim.Native.Nat.{_≤_}
 use borrow.Author.Needs.{needs}
-use native.Mathlib.Omega.{arith}
 use Rattle.region.proofs.run.Statement.{statement}
 use Rattle.region.proofs.run.Tie as tie
 
 abbrev Inv-loop : tie.InvT-loop
-Inv-loop input₀ words₀ lines₀ pile₀ full₀ narrow₀ cells₀ table priors r₀ turns₀ input words lines pile full narrow cells r turns = r .at ≤ 3
+Inv-loop bytes₀ text₀ table priors words₀ pile₀ kernel₀ cells₀ r₀ kept₀ turns₀ bytes text words pile kernel cells r kept turns = Unit {0}
 
 abbrev μ-loop : tie.MeasureT-loop
-μ-loop input₀ words₀ lines₀ pile₀ full₀ narrow₀ cells₀ table priors r₀ turns₀ input words lines pile full narrow cells r turns = turns
+μ-loop bytes₀ text₀ table priors words₀ pile₀ kernel₀ cells₀ r₀ kept₀ turns₀ bytes text words pile kernel cells r kept turns = turns
 
 start-requires : tie.Need-start-requires Inv-loop μ-loop
 start-requires c κs = search needs
 
 loop-holds : tie.Need-loop-holds Inv-loop μ-loop
-loop-holds c = omega (arith, c .start .ensures)
+loop-holds c = tt
 
-next-block-requires : tie.Need-next-block-requires Inv-loop μ-loop
-next-block-requires c κs = search needs
+read-words-requires : tie.Need-read-words-requires Inv-loop μ-loop
+read-words-requires c κs = search needs
+
+kept-requires : tie.Need-kept-requires Inv-loop μ-loop
+kept-requires c κs = search needs
+
+turn-requires : tie.Need-turn-requires Inv-loop μ-loop
+turn-requires c κs = search needs
 
 returns : tie.Need-returns Inv-loop μ-loop
 returns c = tt
@@ -30,7 +34,7 @@ loop-less : tie.Need-loop-less Inv-loop μ-loop
 loop-less c = search needs
 
 loop-again : tie.Need-loop-again Inv-loop μ-loop
-loop-again c = c .before .next-block .ensures
+loop-again c = tt
 
 returns-2 : tie.Need-returns-2 Inv-loop μ-loop
 returns-2 c = tt
@@ -43,7 +47,9 @@ run-spec =
     μ-loop
     start-requires
     loop-holds
-    next-block-requires
+    read-words-requires
+    kept-requires
+    turn-requires
     returns
     sub-turns
     loop-less

@@ -1,0 +1,92 @@
+-- `advance` meets its contract: the words that were taken are passed, and acting on the one behind them comes nearer.
+use borrow.Author.Needs.{needs}
+use mathlib.Core.Path.{_≡_, sym}
+use native.Mathlib.Omega.{arith}
+use Prim.Native.Nat.{ℕ, _+_, _*_, _≤_, _<_}
+use Rattle.region_program.specs.declared.RegionStream.{RegionStream}
+use Rattle.region_program.specs.Stream.{actsLeft}
+use Rattle.region_feed.specs.declared.Found.{Found}
+use Rattle.region_feed.specs.declared.Found.the-variants.{Nothing, Line, Refused}
+use Rattle.region_feed.specs.Feed.{Nearer}
+use Rattle.region_feed.proofs.advance.Statement.{statement}
+use Rattle.region_feed.proofs.advance.Tie as tie
+
+-- what is near from a later word is near from an earlier one with as many times to act
+from-earlier : (f : Found) (s u t : RegionStream) (at later next : ℕ) → at ≤ later → actsLeft u ≡ actsLeft s → Nearer f u later t next → Nearer f s at t next
+from-earlier Nothing s u t at later next h e n = omega arith
+from-earlier (Line r) s u t at later next h e n = omega arith
+from-earlier (Refused y i) s u t at later next h e n = tt
+
+mul-observations : tie.Need-mul-observations
+mul-observations c = search needs
+
+sub-observations : tie.Need-sub-observations
+sub-observations c = search needs
+
+part-observations-start : tie.Need-part-observations-start
+part-observations-start c = search needs
+
+part-observations-end : tie.Need-part-observations-end
+part-observations-end c = search needs
+
+observations-requires : tie.Need-observations-requires
+observations-requires c κs = search needs
+
+add-next : tie.Need-add-next
+add-next c = search needs
+
+mul-act-on : tie.Need-mul-act-on
+mul-act-on c = search needs
+
+shared-slice-read-act-on : tie.Need-shared-slice-read-act-on
+shared-slice-read-act-on c = search needs
+
+act-on-requires : tie.Need-act-on-requires
+act-on-requires c κs = search needs
+
+returns : tie.Need-returns
+returns c =
+    let step = c .act-on .ensures in
+    let r = c .act-on .result in
+    let seen = c .before .before .before .before .before .before .before .before in
+    let taken = seen .observations .ensures in
+    let o = seen .observations .result in
+    let a = seen .before .before .before .before .before .args in
+    record {
+      within = λ h. omega (arith, step .near, c .before .before .before .before .before .if2 .taken);
+      nearer = λ h. from-earlier (r .found) (a .s) (o .stream) (r .stream) (a .at) (a .at + o .taken) (r .at) (omega arith) (taken .same-acts) (step .nearer);
+    }
+
+fed-to-requires : tie.Need-fed-to-requires
+fed-to-requires c κs = search needs
+
+returns-2 : tie.Need-returns-2
+returns-2 c =
+    let seen = c .before .before .before .before in
+    let taken = seen .observations .ensures in
+    simp (c .fed-to .ensures) (record { within = λ h. omega (arith, taken .few, seen .before .before .before .if1 .taken); nearer = λ h. omega (arith, taken .same-acts, c .before .if2 .left) })
+
+fed-to-requires-2 : tie.Need-fed-to-requires-2
+fed-to-requires-2 c κs = search needs
+
+returns-3 : tie.Need-returns-3
+returns-3 c = simp (c .fed-to2 .ensures) (record { within = λ h. h; nearer = λ h. absurd (omega (arith, h, c .before .if1 .left)) })
+
+pub advance-spec : {M : Type 1} → statement M
+advance-spec =
+    tie.close
+    (tie.spec
+    mul-observations
+    sub-observations
+    part-observations-start
+    part-observations-end
+    observations-requires
+    add-next
+    mul-act-on
+    shared-slice-read-act-on
+    act-on-requires
+    returns
+    fed-to-requires
+    returns-2
+    fed-to-requires-2
+    returns-3)

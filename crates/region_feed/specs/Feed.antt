@@ -1,0 +1,23 @@
+-- That feeding comes to an end: each step goes on to a later word, or leaves fewer times to act on this one.
+use Prim.Native.Nat.{ℕ, _+_, _*_, _≤_, _<_}
+use Rattle.region_program.specs.declared.RegionStream.{RegionStream}
+use Rattle.region_program.specs.Stream.{mostActs, actsLeft}
+use Rattle.region_feed.specs.declared.Fed.{Fed}
+use Rattle.region_feed.specs.declared.Found.{Found}
+use Rattle.region_feed.specs.declared.Found.the-variants.{Nothing, Line, Refused}
+
+-- from the word at `at` on to the one at `next`, or with fewer times to act on it; a refusal ends the loop
+abbrev pub Nearer : Found → RegionStream → ℕ → RegionStream → ℕ → Type 0
+Nearer Nothing s at t next = actsLeft t + at * (mostActs + 1) < actsLeft s + next * (mostActs + 1)
+Nearer (Line r) s at t next = actsLeft t + at * (mostActs + 1) < actsLeft s + next * (mostActs + 1)
+Nearer (Refused y i) s at t next = Unit {0}
+
+-- acting on the word at `at`
+pub record Ends (s : RegionStream) (at : ℕ) (r : Fed) : Type 0 where
+  pub near : r .at ≤ at + 1
+  pub nearer : Nearer (r .found) s at (r .stream) (r .at)
+
+-- a step of the loop, n words being there
+pub record Closer (s : RegionStream) (n at : ℕ) (r : Fed) : Type 0 where
+  pub within : at ≤ n → r .at ≤ n
+  pub nearer : at < n → Nearer (r .found) s at (r .stream) (r .at)
