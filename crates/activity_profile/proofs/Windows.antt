@@ -15,7 +15,7 @@ use Rattle.activity_profile.specs.declared.BandPassActivityProfile.{Band
 use Rattle.activity_profile.specs.declared.ActivityProfileState.{ActivityProfileState}
 use Rattle.activity_profile.specs.Verdict.{granted}
 use Rattle.activity_profile.specs.Add.{at, superStates, spreads, received, firstLocus, lowest, highest, needed, addVerdict, addedCell}
-use Rattle.activity_profile.specs.Window.{gained, lo, hi, off, held}
+use Rattle.activity_profile.specs.Window.{receiving, lo, hi, off, held}
 use Rattle.lists.specs.Tests.{or-right}
 use Rattle.activity_profile.proofs.Verdicts.{this-not}
 use Rattle.activity_profile.proofs.Facts.{Whole, accepted-is}
@@ -84,11 +84,11 @@ ltb-less a i n h =
     (lt-or-le i n)
 
 abbrev pub gain : BandPassActivityProfile → List Float → ActivityProfileState → ℕ → Float → Float
-gain p k s = gained k s (superStates p (at s) (s .evidence)) (off p s) (held p s)
+gain p k s = receiving k s (superStates p (at s) (s .evidence)) (off p s) (held p s)
 
 module _ (p : BandPassActivityProfile) (k : List Float) (s : ActivityProfileState) (n m : ℕ) (r : Reached p s n m) where
   same-cell : (i : ℕ) (x : Float) → within (lo p s) (hi p s) (gain p k s) i x ≡ addedCell p k s i x
-  unfolding gained addedCell received
+  unfolding receiving addedCell received
   same-cell i x =
       ⊎-elim
       (λ u.

@@ -9,12 +9,12 @@ use Rattle.activity_profile.specs.declared.ActivityProfileState.{Activit
 use Rattle.activity_profile.specs.Add.{at, times, weight, firstLocus, lowest, highest}
 
 -- cell j of the window, which is x: one addition among the first `held`, else the next new cell
-unfoldable pub gained : List Float → ActivityProfileState → ℕ → ℕ → ℕ → ℕ → Float → Float
-gained kernel s m off held j x =
+unfoldable pub receiving : List Float → ActivityProfileState → ℕ → ℕ → ℕ → ℕ → Float → Float
+receiving kernel s m off held j x =
     let w = times m (weight kernel s (off + j)) in
     cond (ltb j held) (add binary64 x w) w
 
--- the same in two halves: the held cells' rule is `gained`; from cell n on each becomes new, and the others stay
+-- the same in two halves: the held cells' rule is `receiving`; from cell n on each becomes new, and the others stay
 unfoldable pub renewed : List Float → ActivityProfileState → ℕ → ℕ → ℕ → ℕ → Float → Float
 renewed kernel s m off n j x = cond (ltb j n) x (times m (weight kernel s (off + j)))
 

@@ -1,4 +1,5 @@
-// The band-pass activity profile: its record, what its calls answer, their definitions and the laws over them (the Rust's activity_profile.rs).
+// The band-pass activity profile: its record, what its calls answer, their definitions and the laws over them (the
+// Rust's activity_profile.rs).
 //
 // The record goes in by value and comes back; the activity at each locus stands in cells that the caller lends.
 use genome::GenomePosition;

@@ -1,5 +1,5 @@
-// Scoring a locus: from a pile of observation words to the state that an add takes. Document 01, 'Scoring', after the Rust's activity_scoring.rs and
-// minimal_genotyping.rs. No public function has a `requires`.
+// Scoring a locus: from a pile of observation words to the state that an add takes. Document 01, 'Scoring', after the
+// Rust's activity_scoring.rs and minimal_genotyping.rs. No public function has a `requires`.
 mod mean;
 mod score;
 

@@ -10,7 +10,7 @@ use genotype_likelihoods::HaplotypeCallerActivityScoringParams;
 use pileup_words::PileupObservation;
 ghost use mathlib.Core.Path.{_≡_};
 ghost use mathlib.Core.Bool.{true};
-ghost use Prim.Native.Nat.{_+_, _≤_};
+ghost use Prim.Native.Nat.{_+_, _≤_, _<_};
 ghost use lib.ListN.{length};
 ghost use Rattle.activity_scoring.specs.Score.{inRange, allObservations, evidenceOf, scoredOf, scoreOf};
 ghost use Rattle.activity_scoring.specs.Tables.{fromRoundedBy, writtenBy, roundedBy, activityBy, stateBy, scoreBy};
@@ -35,8 +35,9 @@ pub fn haplotype_caller_activity_profile_state_single_sample(
     haplotype_caller_activity_profile_state_by_tables(contig, pos, pile, params, none, none)
 }
 
-// The same score from tables that are filled once for the settings: by `contribution_table::fill_contribution_table`, and by
-// `genotype_posterior::fill_log10_priors` over ploidy + 1 numbers. A table that is too short, and priors of another number, are not looked at.
+// The same score from tables that are filled once for the settings: by `contribution_table::fill_contribution_table`,
+// and by `genotype_posterior::fill_log10_priors` over ploidy + 1 numbers. A table that is too short, and priors of
+// another number, are not looked at.
 pub fn haplotype_caller_activity_profile_state_by_tables(
     contig: u32,
     pos: GenomePosition,
@@ -119,7 +120,8 @@ fn evidence_of(mean: f64) -> ActivityEvidence
     ActivityEvidence::Plain
 }
 
-// Likelihoods in an array with room for them; a small one where it serves, since an array is cleared first.
+// Likelihoods in an array with room for them: the largest ploidy is 100, and a small one has a small array, since an
+// array is cleared first.
 fn activity_of(
     pile: &[u32],
     params: HaplotypeCallerActivityScoringParams,
@@ -131,37 +133,23 @@ fn activity_of(
 {
     let p = params.sample_ploidy;
     if p.0 <= 3 {
-        return activity_of_few(pile, params, table, priors);
+        let mut few = [0.0; 4];
+        return activity_at_front(&mut few, pile, params, table, priors);
     }
-    activity_of_many(pile, params, table, priors)
+    let mut many = [0.0; 101];
+    activity_at_front(&mut many, pile, params, table, priors)
 }
 
-fn activity_of_few(
+fn activity_at_front(
+    gl: &mut [f64],
     pile: &[u32],
     params: HaplotypeCallerActivityScoringParams,
     table: &[f64],
     priors: &[f64],
 ) -> Activity
-    requires { ⌜ params .«sample_ploidy» .0 ≤ 3 ⌝ }
+    requires { ⌜ params .«sample_ploidy» .0 < length (now gl) ⌝ }
     ensures { λ r. ⌜ r ≡ activityBy (now (table .entry)) (now (priors .entry)) (now (pile .entry)) params ⌝ }
 {
-    let mut gl = [0.0; 4];
-    let p = params.sample_ploidy;
-    let n = p.0 as usize + 1;
-    activity_in(&mut gl[..n], pile, params, table, priors)
-}
-
-// The largest ploidy is 100.
-fn activity_of_many(
-    pile: &[u32],
-    params: HaplotypeCallerActivityScoringParams,
-    table: &[f64],
-    priors: &[f64],
-) -> Activity
-    requires { ⌜ params .«sample_ploidy» .0 ≤ 100 ⌝ }
-    ensures { λ r. ⌜ r ≡ activityBy (now (table .entry)) (now (priors .entry)) (now (pile .entry)) params ⌝ }
-{
-    let mut gl = [0.0; 101];
     let p = params.sample_ploidy;
     let n = p.0 as usize + 1;
     activity_in(&mut gl[..n], pile, params, table, priors)
@@ -176,7 +164,8 @@ fn activity_in(
 ) -> Activity
     requires { ⌜ length (now gl) ≡ params .«sample_ploidy» .0 + 1 ⌝ }
     ensures { λ r. ⌜ r ≡ activityBy (now (table .entry)) (now (priors .entry)) (now (pile .entry)) params ⌝ }
-    ensures { λ _. ⌜ now (gl .exit) ≡ writtenBy (now (priors .entry)) params (roundedBy (now (table .entry)) (now (pile .entry)) params) ⌝ }
+    ensures { λ _. ⌜ now (gl .exit)
+        ≡ writtenBy (now (priors .entry)) params (roundedBy (now (table .entry)) (now (pile .entry)) params) ⌝ }
 {
     contribution_table::calc_ref_vs_any_log10_genotype_likelihoods_by_table(
         gl,

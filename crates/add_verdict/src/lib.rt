@@ -1,4 +1,5 @@
-// Document 01, 'Adding a locus': whether an add is granted, or which refusal it meets, and the cells that it needs. No public function has a `requires`.
+// Document 01, 'Adding a locus': whether an add is granted, or which refusal it meets, and the cells that it needs. No
+// public function has a `requires`.
 use activity_profile::ActivityProfileState;
 use activity_profile::AddVerdict;
 use activity_profile::BandPassActivityProfile;

@@ -26,7 +26,8 @@ pub fn make_gaussian_kernel(kernel: &mut [f64], filter_size: u32, sigma: f64)
 
 // How many entries left of the middle, walking left, are at least `min_prob_to_keep` before the first that is not.
 pub fn adaptive_filter_size(kernel: &[f64], min_prob_to_keep: f64) -> usize
-    ensures { λ r. ⌜ (r ≡ adaptiveFilterSize (now (kernel .entry)) «min_prob_to_keep») × (r ≤ (length (now (kernel .entry)) - 1) / 2) ⌝ }
+    ensures { λ r. ⌜ (r ≡ adaptiveFilterSize (now (kernel .entry)) «min_prob_to_keep»)
+        × (r ≤ (length (now (kernel .entry)) - 1) / 2) ⌝ }
 {
     if kernel.len() == 0 {
         return 0;

@@ -51,7 +51,9 @@ impl BandPassActivityProfileParams {
         full: &'a [f64],
         narrow: &'a [f64],
     ) -> &'a [f64]
-        ensures { λ r. ⌜ now r ≡ take (band «filter_size») (cond (eqb «filter_size» (self .«max_filter_size»)) (now (full .entry)) (now (narrow .entry))) ⌝ }
+        ensures { λ r. ⌜ now r
+            ≡ take (band «filter_size»)
+            (cond (eqb «filter_size» (self .«max_filter_size»)) (now (full .entry)) (now (narrow .entry))) ⌝ }
     {
         if filter_size == self.max_filter_size {
             return kernel_in(full, filter_size);
@@ -114,7 +116,8 @@ impl BandPassActivityProfileParams {
 // Writes the kernel of a filter size to the front of the buffer.
 fn write_kernel(buffer: &mut [f64], filter_size: u32, sigma: f64)
     requires { ⌜ band «filter_size» ≤ length (now buffer) ⌝ }
-    ensures { λ _. ⌜ now (buffer .exit) ≡ writtenTo (now (buffer .entry)) (band «filter_size») (gaussianKernel «filter_size» sigma) ⌝ }
+    ensures { λ _. ⌜ now (buffer .exit)
+        ≡ writtenTo (now (buffer .entry)) (band «filter_size») (gaussianKernel «filter_size» sigma) ⌝ }
 {
     let n = band_of(filter_size);
     make_gaussian_kernel(&mut buffer[..n], filter_size, sigma);

@@ -7,16 +7,15 @@ use Prim.Native.Nat.{ℕ, _+_, _*_, _/_, _%_, _<_, _≤_}
 use native.Mathlib.Nat.{mul-le-mul-right, mul-add-div-right, mul-add-mod-self-right, div-eq-of-lt, mod-eq-of-lt, add-zero}
 use native.Mathlib.Omega.{arith}
 use lib.IntN.{pos}
-use lib.Dec.{leb, ltb, eqb}
+use lib.Dec.{leb, ltb}
 use borrow.Author.Tests.{lt-ltb, le-ltb, leb-true}
 use lib.ListN.{length, getD, replicate}
 use lib.Seq.{ext-getD}
 use lib.Ieee.{Float, binary64, ofInt, add, mul, nan}
 use Rattle.lists.specs.Loops.{foldl}
-use Rattle.lists.specs.Each.{each, each-same, getD-each, length-each, tabulate, length-tabulate, getD-tabulate}
+use Rattle.lists.specs.Each.{each, getD-each, length-each, tabulate, length-tabulate, getD-tabulate}
 use Rattle.lists.specs.Folds.{foldl-each, foldl-same, each-replicate, each-tabulate}
 use Rattle.lists.specs.Tests.{and-left, and-right}
-use Rattle.lists.specs.Window.{split}
 use Rattle.doubles.specs.Constants.{zeroF}
 use Rattle.genotype_likelihoods.specs.declared.HaplotypeCallerActivityScoringParams.{HaplotypeCallerActivityScoringParams}
 use Rattle.pileup_words.specs.Words.{observation}

@@ -4,7 +4,6 @@ use genome::Ploidy;
 use genotype_likelihoods::HaplotypeCallerActivityScoringParams;
 ghost use mathlib.Core.Path.{_≡_};
 ghost use Prim.Native.Nat.{_<_, _≤_};
-ghost use lib.ListN.{length};
 ghost use Rattle.contribution_table.specs.Table.{ploidyOf, rowLength, tableLength, cellOf, cellAt, filled};
 
 // Fills the front of the slice with the table of these settings. A slice that is shorter than `table_length` is left as it is.

@@ -1,6 +1,7 @@
-// The likelihoods of a pile by a table. What an observation adds to the likelihood of a genotype depends on its quality, whether it is alternate, the
-// genotype and the settings alone: worked out once for the settings, a pile is a chain of additions. The answers are genotype_likelihoods' own, bit
-// for bit, for every table that `fill_contribution_table` filled. No public function has a `requires`.
+// The likelihoods of a pile by a table. What an observation adds to the likelihood of a genotype depends on its quality,
+// whether it is alternate, the genotype and the settings alone: worked out once for the settings, a pile is a chain of
+// additions. The answers are genotype_likelihoods' own, bit for bit, for every table that `fill_contribution_table`
+// filled. No public function has a `requires`.
 mod fill;
 mod likelihoods;
 

@@ -15,8 +15,9 @@ ghost use Rattle.genotype_likelihoods.specs.Likelihoods.{counted};
 ghost use Rattle.contribution_table.specs.Table.{ploidyOf, rowLength, tableLength, fits, sumAt, likelihoodsBy};
 ghost use Rattle.contribution_table.specs.Sums.{noSums, allTaken, sumsFrom, sumIn};
 
-// Writes what `genotype_likelihoods::calc_ref_vs_any_log10_genotype_likelihoods` writes, where the table is one that `fill_contribution_table` filled
-// for these settings. A table that is too short for them, or for the slice, is not looked at.
+// Writes what `genotype_likelihoods::calc_ref_vs_any_log10_genotype_likelihoods` writes, where the table is one that
+// `fill_contribution_table` filled for these settings. A table that is too short for them, or for the slice, is not
+// looked at.
 pub fn calc_ref_vs_any_log10_genotype_likelihoods_by_table(
     gl: &mut [f64],
     pile: &[u32],
@@ -86,7 +87,9 @@ fn sums_at(
     table: &[f64],
     i: usize,
 ) -> Sums
-    requires { ⌜ (i < rowLength (ploidyOf params)) × (tableLength (ploidyOf params) ≤ length (now table)) × (0 < i % 4 → sums ≡ sumsFrom (now table) params (now pile) (i / 4 * 4)) ⌝ }
+    requires { ⌜ (i < rowLength (ploidyOf params))
+        × (tableLength (ploidyOf params) ≤ length (now table))
+        × (0 < i % 4 → sums ≡ sumsFrom (now table) params (now pile) (i / 4 * 4)) ⌝ }
     ensures { λ r. ⌜ r ≡ sumsFrom (now (table .entry)) params (now (pile .entry)) (i / 4 * 4) ⌝ }
 {
     if i % 4 == 0 {
@@ -124,7 +127,11 @@ fn with_word(
     row: usize,
     i: usize,
 ) -> Sums
-    requires { ⌜ (sums .count < 18446744073709551615) × (row ≡ rowLength (ploidyOf params)) × (row ≤ 256) × (i + 4 ≤ row) × (tableLength (ploidyOf params) ≤ length (now table)) ⌝ }
+    requires { ⌜ (sums .count < 18446744073709551615)
+        × (row ≡ rowLength (ploidyOf params))
+        × (row ≤ 256)
+        × (i + 4 ≤ row)
+        × (tableLength (ploidyOf params) ≤ length (now table)) ⌝ }
     ensures { λ r. ⌜ r ≡ allTaken (now (table .entry)) params i sums w ⌝ }
 {
     let obs = PileupObservation::from_word(w);

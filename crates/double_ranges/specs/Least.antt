@@ -29,11 +29,6 @@ some : (x a c : ℕ) → 0 < c → c ≤ a * x → 0 < x
 some zero a c h l = absurd (omega arith)
 some (suc x) a c h l = omega arith
 
-pub least-plus : (j : ℕ) (x : Float) → Least j x → Plus x
-least-plus j nan p = absurd p
-least-plus j (inf t) p = absurd p
-least-plus j (fin t m e) p = p .0
-
 pub least-above : (j : ℕ) (x : Float) → Least j x → T (lt zeroF x)
 unfolding lt ofBits
 least-above j nan p = absurd p

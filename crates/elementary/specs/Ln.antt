@@ -66,6 +66,10 @@ lnScaled c =
 unfoldable pub lnOf : Float → Float
 lnOf y = cond (lt zeroF y) (cond (lt y (inf false)) (lnScaled (scaled y)) (inf false)) (cond (eq y zeroF) (inf true) nan)
 
+-- 0.4342944819032518, the log10 of e
+abbrev pub log10E : Float
+log10E = ofBits binary64 0x3fdb_cb7b_1526_e50e
+
 -- "log10 is ln × 0.4342944819032518"
 unfoldable pub log10Of : Float → Float
-log10Of x = mul binary64 (lnOf x) (ofBits binary64 0x3fdb_cb7b_1526_e50e)
+log10Of x = mul binary64 (lnOf x) log10E

@@ -21,7 +21,7 @@ use Rattle.double_ranges.specs.Size.{Size, size-mono, add-size, sub-size, mul-s
 use Rattle.double_ranges.specs.Constants.{one-size, one-plus, two-size, two-plus}
 use Rattle.double_ranges.specs.Loops as Grow
 use Rattle.elementary.specs.declared.Scaled.{Scaled}
-use Rattle.elementary.specs.Ln.{unscaled, halve, below2, double, from1, halved, scaled, ratio, first, lnTerm, lnSeries, exponent, lnScaled, lnOf, log10Of}
+use Rattle.elementary.specs.Ln.{log10E, unscaled, halve, below2, double, from1, halved, scaled, ratio, first, lnTerm, lnSeries, exponent, lnScaled, lnOf, log10Of}
 use Rattle.elementary.specs.Scaling.{ln-scales}
 use Rattle.elementary.specs.ExpRange.{whole-at-least}
 
@@ -35,11 +35,11 @@ ln2-plus : Plus (ofBits binary64 0x3fe6_2e42_fefa_39ef)
 unfolding ofBits
 ln2-plus = refl
 
-pub log10-e-size : Size 0 (ofBits binary64 0x3fdb_cb7b_1526_e50e)
+pub log10-e-size : Size 0 log10E
 unfolding ofBits
 log10-e-size = lit≤ tt
 
-log10-e-plus : Plus (ofBits binary64 0x3fdb_cb7b_1526_e50e)
+log10-e-plus : Plus log10E
 unfolding ofBits
 log10-e-plus = refl
 
@@ -290,8 +290,8 @@ ln-plus y t a p q =
 
 pub log10-size : (y : Float) → T (fits binary64 y) → T (lt zeroF y) → T (lt y (inf false)) → Size 89 (log10Of y)
 unfolding log10Of
-log10-size y t p q = mul-size 89 0 (lnOf y) (ofBits binary64 0x3fdb_cb7b_1526_e50e) (lit≤ tt) (ln-size y t p q) log10-e-size
+log10-size y t p q = mul-size 89 0 (lnOf y) log10E (lit≤ tt) (ln-size y t p q) log10-e-size
 
 pub log10-plus : (y : Float) → T (fits binary64 y) → AtLeast 1 y → T (lt zeroF y) → T (lt y (inf false)) → Plus (log10Of y)
 unfolding log10Of
-log10-plus y t a p q = mul-plus 89 0 (lnOf y) (ofBits binary64 0x3fdb_cb7b_1526_e50e) (ln-size y t p q) log10-e-size (ln-plus y t a p q) log10-e-plus
+log10-plus y t a p q = mul-plus 89 0 (lnOf y) log10E (ln-size y t p q) log10-e-size (ln-plus y t a p q) log10-e-plus

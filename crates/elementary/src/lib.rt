@@ -11,6 +11,7 @@ mod logarithm;
 pub use exponential::exp;
 pub use exponential::ten_to;
 pub use gamma::ln_gamma;
+pub use logarithm::LOG10_E;
 pub use logarithm::ln;
 pub use logarithm::log10;
 

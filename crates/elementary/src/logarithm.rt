@@ -26,11 +26,14 @@ pub fn ln(y: f64) -> f64
     not_a_number()
 }
 
+// The log10 of e, by which ln becomes log10.
+pub const LOG10_E: f64 = 0.4342944819032518;
+
 // The logarithm to the base 10.
 pub fn log10(x: f64) -> f64
     ensures { λ r. ⌜ r ≡ log10Of x ⌝ }
 {
-    ln(x) * 0.4342944819032518
+    ln(x) * LOG10_E
 }
 
 // y halved until it is below 2.

@@ -2,7 +2,8 @@
 use genome::Ploidy;
 ghost use mathlib.Core.Path.{_≡_};
 ghost use mathlib.Core.Bool.{cond};
-ghost use Rattle.genotype_likelihoods.specs.Contribution.{errorProb, qualToProbLog10, qualToErrorProbLog10Third, log10Whole, contributionOf};
+ghost use Rattle.genotype_likelihoods.specs.Contribution.{errorProb, qualToProbLog10, qualToErrorProbLog10Third};
+ghost use Rattle.genotype_likelihoods.specs.Contribution.{log10Whole, contributionOf};
 
 // log10 of the likelihood of the read under a genotype with `genotype` copies of the alternate of `ploidy`, times the ploidy.
 pub fn genotype_contribution(qual: u8, is_alt: bool, genotype: usize, ploidy: Ploidy) -> f64

@@ -1,5 +1,5 @@
-// The log10 likelihoods of a sample's genotypes over a pile of observation words: document 01, 'Scoring', after the Rust's activity_scoring.rs. No
-// public function has a `requires`.
+// The log10 likelihoods of a sample's genotypes over a pile of observation words: document 01, 'Scoring', after the
+// Rust's activity_scoring.rs. No public function has a `requires`.
 mod contribution;
 mod likelihoods;
 mod observation;

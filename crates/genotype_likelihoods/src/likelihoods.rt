@@ -14,7 +14,8 @@ ghost use Rattle.lists.specs.Loops.{foldl};
 ghost use Rattle.doubles.specs.Constants.{zeroF, oneF};
 ghost use Rattle.genotype_likelihoods.specs.Likelihoods.{gained, less, counted, taken, likelihoods};
 
-// Writes the log10 likelihoods of the genotypes over the lent slice, entry i for i copies of the alternate; the Rust's have ploidy + 1 entries.
+// Writes the log10 likelihoods of the genotypes over the lent slice, entry i for i copies of the alternate; the Rust's
+// have ploidy + 1 entries.
 pub fn calc_ref_vs_any_log10_genotype_likelihoods(
     gl: &mut [f64],
     pile: &[u32],

@@ -10,6 +10,7 @@ use lib.ListN.{length, getD}
 use lib.Ieee.{Float, binary64, ofBits, ofInt, add, sub, mul, div, nan}
 use Rattle.lists.specs.Each.{each}
 use Rattle.doubles.specs.Constants.{zeroF, oneF}
+use Rattle.elementary.specs.Ln.{log10E}
 use Rattle.elementary.specs.Exp.{tenToOf}
 use Rattle.elementary.specs.LnGamma.{lnGammaOf}
 use Rattle.log10_sums.specs.Sums.{maxElementIndex, log10SumLog10}
@@ -37,7 +38,7 @@ lnPrior ploidy refPc snpPc n =
 
 -- likelihood n + its log10 prior
 unfoldable pub unnormalized : ℕ → Float → Float → ℕ → Float → Float
-unnormalized ploidy refPc snpPc n x = add binary64 x (mul binary64 (lnPrior ploidy refPc snpPc n) (ofBits binary64 0x3fdb_cb7b_1526_e50e))
+unnormalized ploidy refPc snpPc n x = add binary64 x (mul binary64 (lnPrior ploidy refPc snpPc n) log10E)
 
 abbrev pub unnormalizedAll : Float → Float → List Float → List Float
 unnormalizedAll het sd gl = each (unnormalized (length gl - 1) (refPseudocount het sd) (snpPseudocount het sd)) gl

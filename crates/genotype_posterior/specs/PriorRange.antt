@@ -17,6 +17,7 @@ use Rattle.double_ranges.specs.Sign.{Plus, round-plus}
 use Rattle.double_ranges.specs.Size.{Size, size-mono, add-size, sub-size, mul-size, whole-size, sub-plus}
 use Rattle.double_ranges.specs.Constants.{half-size, one-size}
 use Rattle.double_ranges.specs.Least.{Least, least-above, least-up, plus-up, size-down, mul-least, div-least, div-least-size, add-least}
+use Rattle.elementary.specs.Ln.{log10E}
 use Rattle.elementary.specs.LnGamma.{lnGammaOf}
 use Rattle.elementary.specs.ExpRange.{whole-at-least}
 use Rattle.elementary.specs.LnRange.{log10-e-size}
@@ -86,9 +87,6 @@ pub record Argument (x : Float) : Type 0 where
   pub fit : T (fits binary64 x)
   pub above : T (lt zeroF x)
   pub size : Size 40 x
-
-pub argument-finite : (x : Float) → Argument x → T (lt x (inf false))
-argument-finite x a = finite-below 40 x (a .size)
 
 argument-size : (x : Float) → Argument x → Size 150 (lnGammaOf x)
 argument-size x a = gamma-size x (a .fit) (a .above) (a .size)
@@ -173,5 +171,5 @@ pub unnormalized-size : (ploidy n : ℕ) (het sd x : Float) → InRange het sd �
 unfolding unnormalized
 unnormalized-size ploidy n het sd x r h k p =
     let prior = lnPrior ploidy (refPseudocount het sd) (snpPseudocount het sd) n in
-    add-size 154 x (mul binary64 prior (ofBits binary64 0x3fdb_cb7b_1526_e50e)) (lit≤ tt) (size-mono 31 154 x (lit≤ tt) p)
-    (mul-size 154 0 prior (ofBits binary64 0x3fdb_cb7b_1526_e50e) (lit≤ tt) (prior-size ploidy n het sd r h k) log10-e-size)
+    add-size 154 x (mul binary64 prior log10E) (lit≤ tt) (size-mono 31 154 x (lit≤ tt) p)
+    (mul-size 154 0 prior log10E (lit≤ tt) (prior-size ploidy n het sd r h k) log10-e-size)

@@ -1,22 +1,22 @@
 -- The priors of the genotypes as a list, which depends on the settings alone, and the posterior by it.
 use mathlib.Core.Path.{_≡_, refl, sym, ap, _∙_}
 use mathlib.Core.Bool.{Bool, true, false, cond}
-use mathlib.Core.List.{List, [], _∷_}
+use mathlib.Core.List.{List, []}
 use Prim.Native.Nat.{ℕ, _-_, _<_}
 use lib.Dec.{eqb}
 use borrow.Author.Tests.{eqb-true}
 use lib.ListN.{length, getD}
 use lib.Seq.{ext-getD}
 use lib.Ieee.{Float, binary64, ofBits, add, mul, nan}
-use Rattle.lists.specs.Loops.{along}
+use Rattle.elementary.specs.Ln.{log10E}
 use Rattle.lists.specs.Each.{each, length-each, getD-each, tabulate, length-tabulate, getD-tabulate}
 use Rattle.doubles.specs.Constants.{zeroF}
 use Rattle.log10_sums.specs.Sums.{maxElementIndex}
-use Rattle.genotype_posterior.specs.Posterior.{refPseudocount, snpPseudocount, lnPrior, unnormalized, unnormalizedAll, nonRef, posterior, posteriorWritten}
+use Rattle.genotype_posterior.specs.Posterior.{refPseudocount, snpPseudocount, lnPrior, unnormalized, unnormalizedAll, nonRef, posterior}
 
 -- of genotypes genotypes, the log10 prior of n copies
 unfoldable pub log10Prior : Float → Float → ℕ → ℕ → Float
-log10Prior het sd genotypes n = mul binary64 (lnPrior (genotypes - 1) (refPseudocount het sd) (snpPseudocount het sd) n) (ofBits binary64 0x3fdb_cb7b_1526_e50e)
+log10Prior het sd genotypes n = mul binary64 (lnPrior (genotypes - 1) (refPseudocount het sd) (snpPseudocount het sd) n) log10E
 
 -- what filling makes of a slice with an entry for each genotype
 abbrev pub log10Priors : Float → Float → List Float → List Float

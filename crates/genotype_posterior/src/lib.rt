@@ -1,5 +1,6 @@
-// From log10 genotype likelihoods to the probability that a sample is not all reference: PL rounding and the posterior (the Rust's
-// activity_scoring.rs, after GATK's AlleleFrequencyCalculator). Over lent slices of any length and content: no public function has a `requires`.
+// From log10 genotype likelihoods to the probability that a sample is not all reference: PL rounding and the posterior
+// (the Rust's activity_scoring.rs, after GATK's AlleleFrequencyCalculator). Over lent slices of any length and content:
+// no public function has a `requires`.
 mod phred;
 mod posterior;
 

@@ -6,15 +6,16 @@ ghost use Rattle.lists.specs.Each.{each};
 ghost use Rattle.genotype_posterior.specs.Posterior.{logBinomial, lnPrior, unnormalized, nonRef, posterior, posteriorWritten};
 ghost use Rattle.genotype_posterior.specs.Priors.{log10Priors, withPrior, unnormalizedBy, posteriorBy, posteriorWrittenBy};
 
-// From the rounded likelihoods of ploidy + 1 genotypes, over which the unnormalized posteriors are written. 0.0, with nothing written, where the
-// reference genotype is the likeliest; 0.0 too where it has the largest posterior.
+// From the rounded likelihoods of ploidy + 1 genotypes, over which the unnormalized posteriors are written. 0.0, with
+// nothing written, where the reference genotype is the likeliest; 0.0 too where it has the largest posterior.
 pub fn calculate_single_sample_biallelic_non_ref_posterior(
     gl: &mut [f64],
     snp_heterozygosity: f64,
     heterozygosity_standard_deviation: f64,
 ) -> f64
     ensures { λ r. ⌜ r ≡ posterior «snp_heterozygosity» «heterozygosity_standard_deviation» (now (gl .entry)) ⌝ }
-    ensures { λ _. ⌜ now (gl .exit) ≡ posteriorWritten «snp_heterozygosity» «heterozygosity_standard_deviation» (now (gl .entry)) ⌝ }
+    ensures { λ _. ⌜ now (gl .exit)
+        ≡ posteriorWritten «snp_heterozygosity» «heterozygosity_standard_deviation» (now (gl .entry)) ⌝ }
 {
     if log10_sums::max_element_index(&gl[..]) == 0 {
         return 0.0;
@@ -34,7 +35,7 @@ fn write_unnormalized(gl: &mut [f64], ref_pc: f64, snp_pc: f64)
     let ploidy = gl.len() as u64 - 1;
     let mut i = 0;
     while i < gl.len() {
-        gl[i] = gl[i] + ln_prior(ploidy, i as u64, ref_pc, snp_pc) * 0.4342944819032518;
+        gl[i] = gl[i] + ln_prior(ploidy, i as u64, ref_pc, snp_pc) * elementary::LOG10_E;
         i += 1;
     }
 }
@@ -77,13 +78,15 @@ fn non_ref(u: &[f64]) -> f64
 
 // ---- by priors that are worked out once for the settings
 
-// Fills the slice with the log10 priors of its genotypes: entry n is for n copies of the alternate, and the ploidy is one less than its length.
+// Fills the slice with the log10 priors of its genotypes: entry n is for n copies of the alternate, and the ploidy is
+// one less than its length.
 pub fn fill_log10_priors(
     priors: &mut [f64],
     snp_heterozygosity: f64,
     heterozygosity_standard_deviation: f64,
 )
-    ensures { λ _. ⌜ now (priors .exit) ≡ log10Priors «snp_heterozygosity» «heterozygosity_standard_deviation» (now (priors .entry)) ⌝ }
+    ensures { λ _. ⌜ now (priors .exit)
+        ≡ log10Priors «snp_heterozygosity» «heterozygosity_standard_deviation» (now (priors .entry)) ⌝ }
 {
     let ref_pc = snp_heterozygosity
         / (heterozygosity_standard_deviation * heterozygosity_standard_deviation);
@@ -91,21 +94,25 @@ pub fn fill_log10_priors(
     let mut i = 0;
     while i < priors.len() {
         priors[i] = ln_prior(priors.len() as u64 - 1, i as u64, ref_pc, alt_pc)
-            * 0.4342944819032518;
+            * elementary::LOG10_E;
         i += 1;
     }
 }
 
-// As `calculate_single_sample_biallelic_non_ref_posterior`, where the priors are those that `fill_log10_priors` filled for these settings. Priors of another
-// number of genotypes are not looked at.
+// As `calculate_single_sample_biallelic_non_ref_posterior`, where the priors are those that `fill_log10_priors` filled
+// for these settings. Priors of another number of genotypes are not looked at.
 pub fn calculate_single_sample_biallelic_non_ref_posterior_by_priors(
     gl: &mut [f64],
     snp_heterozygosity: f64,
     heterozygosity_standard_deviation: f64,
     priors: &[f64],
 ) -> f64
-    ensures { λ r. ⌜ r ≡ posteriorBy (now (priors .entry)) «snp_heterozygosity» «heterozygosity_standard_deviation» (now (gl .entry)) ⌝ }
-    ensures { λ _. ⌜ now (gl .exit) ≡ posteriorWrittenBy (now (priors .entry)) «snp_heterozygosity» «heterozygosity_standard_deviation» (now (gl .entry)) ⌝ }
+    ensures { λ r. ⌜ r
+        ≡ posteriorBy (now (priors .entry)) «snp_heterozygosity» «heterozygosity_standard_deviation»
+        (now (gl .entry)) ⌝ }
+    ensures { λ _. ⌜ now (gl .exit)
+        ≡ posteriorWrittenBy (now (priors .entry)) «snp_heterozygosity» «heterozygosity_standard_deviation»
+        (now (gl .entry)) ⌝ }
 {
     if log10_sums::max_element_index(&gl[..]) == 0 {
         return 0.0;
@@ -127,7 +134,9 @@ fn unnormalize(
     priors: &[f64],
 )
     requires { ⌜ 0 < length (now gl) ⌝ }
-    ensures { λ _. ⌜ now (gl .exit) ≡ unnormalizedBy (now (priors .entry)) «snp_heterozygosity» «heterozygosity_standard_deviation» (now (gl .entry)) ⌝ }
+    ensures { λ _. ⌜ now (gl .exit)
+        ≡ unnormalizedBy (now (priors .entry)) «snp_heterozygosity» «heterozygosity_standard_deviation»
+        (now (gl .entry)) ⌝ }
 {
     if priors.len() == gl.len() {
         add_priors(gl, priors);

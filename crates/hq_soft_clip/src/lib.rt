@@ -1,12 +1,13 @@
-// The count of high-quality soft-clipped bases: document 01, 'Soft-clip count', after the Rust's hq_soft_clip.rs, with the SAM specification's
-// CIGAR operations. No public function has a `requires`.
+// The count of high-quality soft-clipped bases: document 01, 'Soft-clip count', after the Rust's hq_soft_clip.rs, with
+// the SAM specification's CIGAR operations. No public function has a `requires`.
 use genome::Refusal;
 ghost use mathlib.Core.Path.{_≡_};
 ghost use mathlib.Core.Bool.{false, cond};
 ghost use Prim.Native.Nat.{_+_, _-_, _≤_, _<_, min};
 ghost use lib.ListN.{length};
 ghost use Rattle.lists.specs.Loops.{foldl};
-ghost use Rattle.hq_soft_clip.specs.SoftClips.{span, advances, orUnknown, withBase, countHigh, walked, start, capped, clipCount, clipCountOf};
+ghost use Rattle.hq_soft_clip.specs.SoftClips.{span, advances, orUnknown, withBase, countHigh, walked, start, capped};
+ghost use Rattle.hq_soft_clip.specs.SoftClips.{clipCount, clipCountOf};
 
 // What the count answers.
 pub enum SoftClips {
@@ -27,9 +28,9 @@ const SOFT_CLIP: u32 = 4;
 // A soft-clipped base counts where its quality is strictly above this.
 const RCM_HQ_SOFT_CLIP_QUAL_THRESHOLD: u8 = 28;
 
-// How many soft-clipped bases have a quality strictly above 28, over CIGAR words as BAM stores them (length in the high 28 bits, operation in
-// the low 4). A missing quality counts as 0. Refuses an operation from 9 on. The cost is bounded by the numbers of words and qualities, whatever lengths the
-// words claim.
+// How many soft-clipped bases have a quality strictly above 28, over CIGAR words as BAM stores them (length in the high
+// 28 bits, operation in the low 4). A missing quality counts as 0. Refuses an operation from 9 on. The cost is bounded
+// by the numbers of words and qualities, whatever lengths the words claim.
 pub fn count_high_quality_soft_clip_bases_rcm(cigar: &[u32], qualities: &[u8]) -> SoftClips
     ensures { λ r. ⌜ clipCountOf r ≡ clipCount (now (cigar .entry)) (now (qualities .entry)) ⌝ }
 {
@@ -69,7 +70,9 @@ fn walk_all(cigar: &[u32], qualities: &[u8]) -> Walk
 // The walk with one word more.
 fn walk_word(w: Walk, word: u32, qualities: &[u8]) -> Walk
     requires { ⌜ (w .count ≤ w .at) × (w .at ≤ length (now qualities)) ⌝ }
-    ensures { λ r. ⌜ (r ≡ capped (length (now (qualities .entry))) (walked (now (qualities .entry)) w word)) × (r .count ≤ r .at) × (r .at ≤ length (now (qualities .entry))) ⌝ }
+    ensures { λ r. ⌜ (r ≡ capped (length (now (qualities .entry))) (walked (now (qualities .entry)) w word))
+        × (r .count ≤ r .at)
+        × (r .at ≤ length (now (qualities .entry))) ⌝ }
 {
     let at = w.at;
     let end = place_after(at, word, qualities.len());

@@ -1,5 +1,5 @@
-// Sums of numbers that are given by their log10 (the Rust's activity_scoring.rs, after GATK's MathUtils). For every double: no public function has a
-// `requires`.
+// Sums of numbers that are given by their log10 (the Rust's activity_scoring.rs, after GATK's MathUtils). For every
+// double: no public function has a `requires`.
 mod pair;
 mod sums;
 

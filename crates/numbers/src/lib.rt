@@ -1,5 +1,5 @@
-// Small functions on numbers that every layer uses: the lesser and the greater of two, a difference that stops at 0, ranges, and Rust's casts from a
-// double. For all numbers: no public function has a `requires`.
+// Small functions on numbers that every layer uses: the lesser and the greater of two, a difference that stops at 0,
+// ranges, and Rust's casts from a double. For all numbers: no public function has a `requires`.
 mod casts;
 mod ranges;
 mod whole;

@@ -6,13 +6,13 @@ use region_program::Phase;
 use region_program::RegionStream;
 ghost use mathlib.Core.Path.{_≡_};
 ghost use Prim.Native.Nat.{_≤_};
-ghost use lib.ListN.{length, take};
+ghost use lib.ListN.{length};
 ghost use Rattle.lists.specs.Loops.{firstAt};
 ghost use Rattle.region_program.specs.declared.Phase.the-variants.{Pile};
 ghost use Rattle.region_program.specs.Run.{isOther, keptMore, keptAll, runAt, Taken};
 
-// Takes all the observations at the front of these words into the pile that is open, as acting on each of them would, however piles are scored. Takes none
-// where no pile is open.
+// Takes all the observations at the front of these words into the pile that is open, as acting on each of them would,
+// however piles are scored. Takes none where no pile is open.
 pub fn observations(s: RegionStream, words: &[u32], pile: &mut [u32; PILE]) -> Observed
     ensures { λ r. ⌜ Taken s (now (words .entry)) (now (pile .entry)) (now (pile .exit)) r ⌝ }
 {

@@ -1,5 +1,5 @@
-// The 32-bit words of a stream: their kinds and fields, the observation that a word holds, and the event that a word is. No public function has a
-// `requires`.
+// The 32-bit words of a stream: their kinds and fields, the observation that a word holds, and the event that a word is.
+// No public function has a `requires`.
 mod event;
 mod observation;
 

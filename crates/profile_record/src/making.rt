@@ -19,7 +19,8 @@ pub fn new(
 ) -> Made
     ensures { λ r. ⌜ makingOf r ≡ making contig «contig_len» params (length (now (full .entry))) (length (now (narrow .entry))) ⌝ }
     ensures { λ _. ⌜ now (full .exit) ≡ fullAfterMaking «contig_len» params (now (full .entry)) (length (now (narrow .entry))) ⌝ }
-    ensures { λ _. ⌜ now (narrow .exit) ≡ narrowAfterMaking «contig_len» params (length (now (full .entry))) (now (narrow .entry)) ⌝ }
+    ensures { λ _. ⌜ now (narrow .exit)
+        ≡ narrowAfterMaking «contig_len» params (length (now (full .entry))) (now (narrow .entry)) ⌝ }
 {
     if !numbers::within_u32(1, contig_len, genome::MAX_POSITION) {
         return Made::Refused(Refusal::Setting);

@@ -1,4 +1,5 @@
-// The region program: document 01's chapter of that name. It reads words from standard input and writes lines to standard output, in constant memory.
+// The region program: document 01's chapter of that name. It reads words from standard input and writes lines to
+// standard output, in constant memory.
 use region_program::CELLS;
 use region_program::KERNEL;
 use region_program::PILE;
@@ -16,8 +17,8 @@ fn main() {
     run(&mut bytes, &mut text, &table, &priors);
 }
 
-// Reads and feeds block by block; the text that a block brings is written before the next is read. A proved loop has to end, and nothing says that an input
-// does: so this one counts its blocks down, from a number that no run uses up.
+// Reads and feeds block by block; the text that a block brings is written before the next is read. A proved loop has to
+// end, and nothing says that an input does: so this one counts its blocks down, from a number that no run uses up.
 fn run(
     bytes: &mut [u8; BLOCK],
     text: &mut [u8; BLOCK],

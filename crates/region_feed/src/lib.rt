@@ -1,4 +1,5 @@
-// Feeding the region program the words of a stream: what a program that prints, or one that compares, does with each word. No public function has a `requires`.
+// Feeding the region program the words of a stream: what a program that prints, or one that compares, does with each
+// word. No public function has a `requires`.
 use activity_profile::ActivityProfileRegion;
 use genome::Refusal;
 use pileup_words::StreamEvent;

@@ -3,9 +3,11 @@ use mathlib.Core.Bool.{Bool, cond}
 use mathlib.Core.List.{List, [], _∷_}
 use mathlib.Core.Path.{_≡_, refl}
 use Prim.Native.Nat.{ℕ}
-use lib.ListN.{getD}
+use lib.Dec.{eqb}
+use lib.ListN.{getD, take}
 use lib.Ieee.{Float}
 use Rattle.genome.specs.Refusals.{Outcome, refused, answered}
+use Rattle.band_pass_kernel.specs.Kernel.{band}
 use Rattle.band_pass_kernel.specs.declared.BandPassActivityProfileParams.{BandPassActivityProfileParams}
 use Rattle.activity_profile.specs.declared.BandPassActivityProfile.{BandPassActivityProfile}
 use Rattle.activity_profile.specs.declared.ActivityProfileRegion.{ActivityProfileRegion}
@@ -122,3 +124,27 @@ popRegion (refusedPop n p) old = old
 popRegion (emptyPop p) old = old
 popRegion (heldPop p) old = old
 popRegion (regionPop r p) old = regionFields r
+
+-- the kernel that a making left, at the front of whichever buffer holds it
+abbrev pub kernelOf : ℕ → ℕ → List Float → List Float → List Float
+kernelOf f widest full narrow = take (band f) (cond (eqb f widest) full narrow)
+
+-- ---- what a call promises of its answer and of what it writes
+
+pub record Answers {A B : Type 0} (written-as : A → B) (outcome : Outcome A) (old new : B) (r : ℕ) : Type 0 where
+  pub number : r ≡ outcomeNumber outcome
+  pub written : new ≡ outcomeWritten written-as outcome old
+
+pub record Adds (answer : AddAnswer) (old new : List ℕ) (r : ℕ) : Type 0 where
+  pub number : r ≡ addNumber answer
+  pub written : new ≡ addRecord answer old
+
+pub record Pops (answer : PopAnswer) (old new region region′ : List ℕ) (r : ℕ) : Type 0 where
+  pub number : r ≡ popNumber answer
+  pub written : new ≡ popRecord answer old
+  pub handed-out : region′ ≡ popRegion answer region
+
+pub record Scores (outcome : Outcome ActivityProfileState) (activity activity′ : List Float) (evidence evidence′ : List ℕ) (r : ℕ) : Type 0 where
+  pub number : r ≡ outcomeNumber outcome
+  pub activity-written : activity′ ≡ outcomeWritten activityFields outcome activity
+  pub evidence-written : evidence′ ≡ outcomeWritten stateEvidence outcome evidence

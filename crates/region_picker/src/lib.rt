@@ -1,6 +1,7 @@
-// The part that makers link: the picker's entry points as C functions over numbers and slices. A slice is a pointer and a length in C. Each function hands
-// its arguments to the entry point of the same name and has its refusals and its promises; part/region_picker.h says it in a maker's words. No function has a
-// `requires`: whatever a caller hands in, the answer is the one that the contract names.
+// The part that makers link: the picker's entry points as C functions over numbers and slices. A slice is a pointer and
+// a length in C. Each function hands its arguments to the entry point of the same name and has its refusals and its
+// promises; part/region_picker.h says it in a maker's words. No function has a `requires`: whatever a caller hands in,
+// the answer is the one that the contract names.
 //
 // A profile's record is seven numbers in a lent array, in the order of their constants below, and the threshold, which the caller keeps.
 mod profile;

@@ -13,18 +13,16 @@ use activity_profile::Popped;
 use band_pass_kernel::BandPassActivityProfileParams;
 use genome::GenomePosition;
 ghost use mathlib.Core.Path.{_≡_};
-ghost use mathlib.Core.Bool.{cond};
-ghost use lib.Dec.{eqb};
-ghost use lib.ListN.{length, take};
-ghost use Rattle.band_pass_kernel.specs.Kernel.{band};
+ghost use lib.ListN.{length};
 ghost use Rattle.activity_profile.specs.Making.{making, fullAfterMaking, narrowAfterMaking};
 ghost use Rattle.activity_profile.specs.Add.{addAnswer, addCells};
 ghost use Rattle.activity_profile.specs.Pop.{popAnswer, popCells};
-ghost use Rattle.region_picker.specs.Part.{recordOf, profileOf, regionFields, evidenceFrom, stateFrom, paramsFrom, outcomeNumber, outcomeWritten, addNumber, addRecord, popNumber, popRecord, popRegion};
+ghost use Rattle.region_picker.specs.Part.{recordOf, profileOf, regionFields, evidenceFrom, stateFrom, paramsFrom};
+ghost use Rattle.region_picker.specs.Part.{kernelOf, Answers, Adds, Pops};
 ghost use Rattle.band_pass_kernel.specs.Resolve.{copied, copiedLength};
 
-// Makes an empty profile of a contig: its numbers are written to `profile`, and its kernel stands in one of the two buffers. Answers 0, or the number of a
-// refusal, which writes nothing.
+// Makes an empty profile of a contig: its numbers are written to `profile`, and its kernel stands in one of the two
+// buffers. Answers 0, or the number of a refusal, which writes nothing.
 #[no_mangle]
 pub extern "C" fn region_picker_make(
     profile: &mut [u32; RECORD],
@@ -38,10 +36,19 @@ pub extern "C" fn region_picker_make(
     full: &mut [f64],
     narrow: &mut [f64],
 ) -> u32
-    ensures { λ r. ⌜ r ≡ outcomeNumber (making contig «contig_len» (paramsFrom «max_prob_propagation_distance» «active_prob_threshold» «max_filter_size» sigma «adaptive_filter_size») (length (now (full .entry))) (length (now (narrow .entry)))) ⌝ }
-    ensures { λ _. ⌜ now (profile .exit) ≡ outcomeWritten recordOf (making contig «contig_len» (paramsFrom «max_prob_propagation_distance» «active_prob_threshold» «max_filter_size» sigma «adaptive_filter_size») (length (now (full .entry))) (length (now (narrow .entry)))) (now (profile .entry)) ⌝ }
-    ensures { λ _. ⌜ now (full .exit) ≡ fullAfterMaking «contig_len» (paramsFrom «max_prob_propagation_distance» «active_prob_threshold» «max_filter_size» sigma «adaptive_filter_size») (now (full .entry)) (length (now (narrow .entry))) ⌝ }
-    ensures { λ _. ⌜ now (narrow .exit) ≡ narrowAfterMaking «contig_len» (paramsFrom «max_prob_propagation_distance» «active_prob_threshold» «max_filter_size» sigma «adaptive_filter_size») (length (now (full .entry))) (now (narrow .entry)) ⌝ }
+    ensures { λ r. ⌜ Answers recordOf
+        (making contig «contig_len»
+        (paramsFrom «max_prob_propagation_distance» «active_prob_threshold» «max_filter_size» sigma «adaptive_filter_size»)
+        (length (now (full .entry))) (length (now (narrow .entry))))
+        (now (profile .entry)) (now (profile .exit)) r ⌝ }
+    ensures { λ _. ⌜ now (full .exit)
+        ≡ fullAfterMaking «contig_len»
+        (paramsFrom «max_prob_propagation_distance» «active_prob_threshold» «max_filter_size» sigma «adaptive_filter_size»)
+        (now (full .entry)) (length (now (narrow .entry))) ⌝ }
+    ensures { λ _. ⌜ now (narrow .exit)
+        ≡ narrowAfterMaking «contig_len»
+        (paramsFrom «max_prob_propagation_distance» «active_prob_threshold» «max_filter_size» sigma «adaptive_filter_size»)
+        (length (now (full .entry))) (now (narrow .entry)) ⌝ }
 {
     let params = BandPassActivityProfileParams {
         max_prob_propagation_distance,
@@ -60,8 +67,8 @@ pub extern "C" fn region_picker_make(
     }
 }
 
-// Copies the kernel of the profile that a making left in its buffers to the front of `kernel`, and answers its length, 2F + 1. A slice that is too short is
-// left as it is, and the answer is 0.
+// Copies the kernel of the profile that a making left in its buffers to the front of `kernel`, and answers its length,
+// 2F + 1. A slice that is too short is left as it is, and the answer is 0.
 #[no_mangle]
 pub extern "C" fn region_picker_kernel<'a>(
     kernel: &mut [f64],
@@ -70,8 +77,12 @@ pub extern "C" fn region_picker_kernel<'a>(
     full: &'a [f64],
     narrow: &'a [f64],
 ) -> usize
-    ensures { λ r. ⌜ r ≡ copiedLength (length (take (band «filter_size») (cond (eqb «filter_size» «max_filter_size») (now (full .entry)) (now (narrow .entry))))) (length (now (kernel .entry))) ⌝ }
-    ensures { λ _. ⌜ now (kernel .exit) ≡ copied (take (band «filter_size») (cond (eqb «filter_size» «max_filter_size») (now (full .entry)) (now (narrow .entry)))) (now (kernel .entry)) ⌝ }
+    ensures { λ r. ⌜ r
+        ≡ copiedLength (length (kernelOf «filter_size» «max_filter_size» (now (full .entry)) (now (narrow .entry))))
+        (length (now (kernel .entry))) ⌝ }
+    ensures { λ _. ⌜ now (kernel .exit)
+        ≡ copied (kernelOf «filter_size» «max_filter_size» (now (full .entry)) (now (narrow .entry)))
+        (now (kernel .entry)) ⌝ }
 {
     let params = BandPassActivityProfileParams {
         max_prob_propagation_distance: 0,
@@ -80,10 +91,7 @@ pub extern "C" fn region_picker_kernel<'a>(
         sigma: 1.0,
         adaptive_filter_size: false,
     };
-    band_pass_kernel::copy_kernel(
-        kernel,
-        params.normalized_kernel(filter_size, full, narrow),
-    )
+    band_pass_kernel::copy_kernel(kernel, params.normalized_kernel(filter_size, full, narrow))
 }
 
 // Adds the next locus. Answers 0, or the number of a refusal, which writes nothing.
@@ -100,9 +108,13 @@ pub extern "C" fn region_picker_add(
     kernel: &[f64],
     cells: &mut [f64],
 ) -> u32
-    ensures { λ r. ⌜ r ≡ addNumber (addAnswer (profileOf (now (profile .entry)) «active_prob_threshold») (now (cells .entry)) (now (kernel .entry)) (stateFrom contig pos «active_prob» «original_active_prob» «has_clips» «clip_bases»)) ⌝ }
-    ensures { λ _. ⌜ now (profile .exit) ≡ addRecord (addAnswer (profileOf (now (profile .entry)) «active_prob_threshold») (now (cells .entry)) (now (kernel .entry)) (stateFrom contig pos «active_prob» «original_active_prob» «has_clips» «clip_bases»)) (now (profile .entry)) ⌝ }
-    ensures { λ _. ⌜ now (cells .exit) ≡ addCells (profileOf (now (profile .entry)) «active_prob_threshold») (now (cells .entry)) (now (kernel .entry)) (stateFrom contig pos «active_prob» «original_active_prob» «has_clips» «clip_bases») ⌝ }
+    ensures { λ r. ⌜ Adds
+        (addAnswer (profileOf (now (profile .entry)) «active_prob_threshold») (now (cells .entry)) (now (kernel .entry))
+        (stateFrom contig pos «active_prob» «original_active_prob» «has_clips» «clip_bases»))
+        (now (profile .entry)) (now (profile .exit)) r ⌝ }
+    ensures { λ _. ⌜ now (cells .exit)
+        ≡ addCells (profileOf (now (profile .entry)) «active_prob_threshold») (now (cells .entry)) (now (kernel .entry))
+        (stateFrom contig pos «active_prob» «original_active_prob» «has_clips» «clip_bases») ⌝ }
 {
     let p = profile_of(profile, active_prob_threshold);
     let evidence = evidence_from(has_clips, clip_bases);
@@ -123,7 +135,8 @@ pub extern "C" fn region_picker_add(
     }
 }
 
-// Pops the next region that is ready. Answers 0 with the region written; `HELD` or `EMPTY`; or the number of a refusal, which writes nothing.
+// Pops the next region that is ready. Answers 0 with the region written; `HELD` or `EMPTY`; or the number of a refusal,
+// which writes nothing.
 #[no_mangle]
 pub extern "C" fn region_picker_pop(
     profile: &mut [u32; RECORD],
@@ -135,10 +148,13 @@ pub extern "C" fn region_picker_pop(
     cells: &mut [f64],
     region: &mut [u32; REGION],
 ) -> u32
-    ensures { λ r. ⌜ r ≡ popNumber (popAnswer (profileOf (now (profile .entry)) «active_prob_threshold») (now (cells .entry)) «assembly_region_extension» «min_region_size» «max_region_size» forced) ⌝ }
-    ensures { λ _. ⌜ now (profile .exit) ≡ popRecord (popAnswer (profileOf (now (profile .entry)) «active_prob_threshold») (now (cells .entry)) «assembly_region_extension» «min_region_size» «max_region_size» forced) (now (profile .entry)) ⌝ }
-    ensures { λ _. ⌜ now (cells .exit) ≡ popCells (profileOf (now (profile .entry)) «active_prob_threshold») (now (cells .entry)) «min_region_size» «max_region_size» forced ⌝ }
-    ensures { λ _. ⌜ now (region .exit) ≡ popRegion (popAnswer (profileOf (now (profile .entry)) «active_prob_threshold») (now (cells .entry)) «assembly_region_extension» «min_region_size» «max_region_size» forced) (now (region .entry)) ⌝ }
+    ensures { λ r. ⌜ Pops
+        (popAnswer (profileOf (now (profile .entry)) «active_prob_threshold») (now (cells .entry))
+        «assembly_region_extension» «min_region_size» «max_region_size» forced)
+        (now (profile .entry)) (now (profile .exit)) (now (region .entry)) (now (region .exit)) r ⌝ }
+    ensures { λ _. ⌜ now (cells .exit)
+        ≡ popCells (profileOf (now (profile .entry)) «active_prob_threshold») (now (cells .entry))
+        «min_region_size» «max_region_size» forced ⌝ }
 {
     let p = profile_of(profile, active_prob_threshold);
     let popped = profile_pop::try_pop_next_ready_region(

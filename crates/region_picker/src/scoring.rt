@@ -9,7 +9,7 @@ ghost use mathlib.Core.Path.{_≡_};
 ghost use Rattle.contribution_table.specs.Table.{tableLength, filled};
 ghost use Rattle.activity_scoring.specs.Tables.{priorsFilled, scoreBy};
 ghost use Rattle.hq_soft_clip.specs.SoftClips.{clipCount};
-ghost use Rattle.region_picker.specs.Part.{scoringFrom, activityFields, evidenceFields, stateEvidence, outcomeNumber, outcomeWritten};
+ghost use Rattle.region_picker.specs.Part.{scoringFrom, evidenceFields, Answers, Scores};
 
 // How many numbers the table of a ploidy has.
 #[no_mangle]
@@ -19,8 +19,8 @@ pub extern "C" fn region_picker_table_length(ploidy: u8) -> usize
     contribution_table::table_length(Ploidy(ploidy))
 }
 
-// Fills the tables that scoring is handed for these settings: `table`, of `region_picker_table_length` numbers or more, and `priors`, of ploidy + 1. To be
-// called once, and again when a setting changes.
+// Fills the tables that scoring is handed for these settings: `table`, of `region_picker_table_length` numbers or more,
+// and `priors`, of ploidy + 1. To be called once, and again when a setting changes.
 #[no_mangle]
 pub extern "C" fn region_picker_fill_tables(
     table: &mut [f64],
@@ -33,8 +33,12 @@ pub extern "C" fn region_picker_fill_tables(
     active_region_alt_multiplier: f64,
     flow_based_reference_model: bool,
 )
-    ensures { λ _. ⌜ now (table .exit) ≡ filled (scoringFrom «min_base_quality_score» «sample_ploidy» «snp_heterozygosity» «heterozygosity_standard_deviation» «ref_model_deletion_qual» «active_region_alt_multiplier» «flow_based_reference_model») (now (table .entry)) ⌝ }
-    ensures { λ _. ⌜ now (priors .exit) ≡ priorsFilled (scoringFrom «min_base_quality_score» «sample_ploidy» «snp_heterozygosity» «heterozygosity_standard_deviation» «ref_model_deletion_qual» «active_region_alt_multiplier» «flow_based_reference_model») (now (priors .entry)) ⌝ }
+    ensures { λ _. ⌜ now (table .exit) ≡ filled (scoringFrom «min_base_quality_score» «sample_ploidy» «snp_heterozygosity»
+        «heterozygosity_standard_deviation» «ref_model_deletion_qual» «active_region_alt_multiplier»
+        «flow_based_reference_model») (now (table .entry)) ⌝ }
+    ensures { λ _. ⌜ now (priors .exit) ≡ priorsFilled (scoringFrom «min_base_quality_score» «sample_ploidy» «snp_heterozygosity»
+        «heterozygosity_standard_deviation» «ref_model_deletion_qual» «active_region_alt_multiplier»
+        «flow_based_reference_model») (now (priors .entry)) ⌝ }
 {
     let params = scoring_params(
         min_base_quality_score,
@@ -53,9 +57,9 @@ pub extern "C" fn region_picker_fill_tables(
     );
 }
 
-// Scores a pile of observation words. Answers 0 with the probability and the original probability in `activity`, and in `evidence` 1 and the clip
-// count, or 0 and 0 for plain evidence; or the number of a refusal, which writes nothing. The score is the same without tables (slices of length 0), only
-// slower.
+// Scores a pile of observation words. Answers 0 with the probability and the original probability in `activity`, and in
+// `evidence` 1 and the clip count, or 0 and 0 for plain evidence; or the number of a refusal, which writes nothing. The
+// score is the same without tables (slices of length 0), only slower.
 #[no_mangle]
 pub extern "C" fn region_picker_score(
     pos: u32,
@@ -72,9 +76,12 @@ pub extern "C" fn region_picker_score(
     activity: &mut [f64; 2],
     evidence: &mut [u32; 2],
 ) -> u32
-    ensures { λ r. ⌜ r ≡ outcomeNumber (scoreBy (now (table .entry)) (now (priors .entry)) 0 (record { 0 = pos }) (now (pile .entry)) (scoringFrom «min_base_quality_score» «sample_ploidy» «snp_heterozygosity» «heterozygosity_standard_deviation» «ref_model_deletion_qual» «active_region_alt_multiplier» «flow_based_reference_model»)) ⌝ }
-    ensures { λ _. ⌜ now (activity .exit) ≡ outcomeWritten activityFields (scoreBy (now (table .entry)) (now (priors .entry)) 0 (record { 0 = pos }) (now (pile .entry)) (scoringFrom «min_base_quality_score» «sample_ploidy» «snp_heterozygosity» «heterozygosity_standard_deviation» «ref_model_deletion_qual» «active_region_alt_multiplier» «flow_based_reference_model»)) (now (activity .entry)) ⌝ }
-    ensures { λ _. ⌜ now (evidence .exit) ≡ outcomeWritten stateEvidence (scoreBy (now (table .entry)) (now (priors .entry)) 0 (record { 0 = pos }) (now (pile .entry)) (scoringFrom «min_base_quality_score» «sample_ploidy» «snp_heterozygosity» «heterozygosity_standard_deviation» «ref_model_deletion_qual» «active_region_alt_multiplier» «flow_based_reference_model»)) (now (evidence .entry)) ⌝ }
+    ensures { λ r. ⌜ Scores
+        (scoreBy (now (table .entry)) (now (priors .entry)) 0 (record { 0 = pos }) (now (pile .entry))
+        (scoringFrom «min_base_quality_score» «sample_ploidy» «snp_heterozygosity»
+        «heterozygosity_standard_deviation» «ref_model_deletion_qual» «active_region_alt_multiplier»
+        «flow_based_reference_model»))
+        (now (activity .entry)) (now (activity .exit)) (now (evidence .entry)) (now (evidence .exit)) r ⌝ }
 {
     let params = scoring_params(
         min_base_quality_score,
@@ -113,7 +120,9 @@ fn scoring_params(
     active_region_alt_multiplier: f64,
     flow_based_reference_model: bool,
 ) -> HaplotypeCallerActivityScoringParams
-    ensures { λ r. ⌜ r ≡ scoringFrom «min_base_quality_score» «sample_ploidy» «snp_heterozygosity» «heterozygosity_standard_deviation» «ref_model_deletion_qual» «active_region_alt_multiplier» «flow_based_reference_model» ⌝ }
+    ensures { λ r. ⌜ r ≡ scoringFrom «min_base_quality_score» «sample_ploidy» «snp_heterozygosity»
+        «heterozygosity_standard_deviation» «ref_model_deletion_qual» «active_region_alt_multiplier»
+        «flow_based_reference_model» ⌝ }
 {
     HaplotypeCallerActivityScoringParams {
         min_base_quality_score,
@@ -135,11 +144,12 @@ fn evidence_fields(e: ActivityEvidence) -> [u32; 2]
     }
 }
 
-// Counts the soft-clipped bases of a quality above 28 along CIGAR words. Answers 0 with the count written, or the number of a refusal, which writes nothing.
+// Counts the soft-clipped bases of a quality above 28 along CIGAR words. Answers 0 with the count written, or the number
+// of a refusal, which writes nothing.
 #[no_mangle]
 pub extern "C" fn region_picker_count_clips(cigar: &[u32], qualities: &[u8], count: &mut u64) -> u32
-    ensures { λ r. ⌜ r ≡ outcomeNumber (clipCount (now (cigar .entry)) (now (qualities .entry))) ⌝ }
-    ensures { λ _. ⌜ now (count .exit) ≡ outcomeWritten (λ n. n) (clipCount (now (cigar .entry)) (now (qualities .entry))) (now (count .entry)) ⌝ }
+    ensures { λ r. ⌜ Answers (λ n. n) (clipCount (now (cigar .entry)) (now (qualities .entry)))
+        (now (count .entry)) (now (count .exit)) r ⌝ }
 {
     let counted = hq_soft_clip::count_high_quality_soft_clip_bases_rcm(cigar, qualities);
     match counted {

@@ -7,7 +7,6 @@ use Prim.Native.Nat.{ℕ, _≤_, _<_}
 use native.Mathlib.Omega.{arith}
 use lib.Dec.{ltb, eqb}
 use lib.ListN.{length}
-use lib.Ieee.{Float}
 use Rattle.genome.specs.Refusals.{Outcome, refused, answered}
 use Rattle.pileup_words.specs.declared.StreamEvent.{StreamEvent}
 use Rattle.pileup_words.specs.declared.StreamEvent.the-variants.{Locus, Observation, Pop, Setting, Remainder, End}
@@ -16,13 +15,9 @@ use Rattle.activity_profile.specs.declared.ActivityProfileRegion.{ActivityProfi
 use Rattle.activity_profile.specs.Pop.{PopAnswer, refusedPop, emptyPop, heldPop, regionPop, popAnswer, popCells}
 use Rattle.stream_settings.specs.declared.StreamSettings.{StreamSettings}
 use Rattle.stream_settings.specs.Settings.{withField}
-use Rattle.region_program.specs.declared.RegionStream.{RegionStream}
-use Rattle.region_program.specs.declared.Phase.{Phase}
-use Rattle.region_program.specs.declared.Phase.the-variants.{Settings, Loci, Pile}
 use Rattle.region_program.specs.Program.{Reading, Place, atSettings, atLoci, inPile, Answer, goes, again, line, stops, next, moved, stray, profileMade, madeWith}
-use Rattle.region_program.specs.Program.{zeroSize, popUnmade, setBy, beforeLoci, poppedBy, popMade, popped, betweenPiles, Scoring, scoreAdded, scoreCells}
+use Rattle.region_program.specs.Program.{zeroSize, setBy, beforeLoci, poppedBy, popMade, betweenPiles, Scoring, scoreAdded, scoreCells}
 use Rattle.region_program.specs.Program.{endedWith, endedBy, withinPile, actAt, actBy}
-use Rattle.region_program.specs.Stream.{placeOf, seen, pileAfter, pileObserved, kept, kernelAfter, kernelMade, kernelOpened}
 use Rattle.region_program.proofs.Counts.{fewer, length-pop, length-score}
 
 -- where a pile has ended

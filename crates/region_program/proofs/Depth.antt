@@ -10,7 +10,7 @@ use lib.ListN.{length, length-append}
 use Rattle.lists.specs.Loops.{foldl}
 use Rattle.genome.specs.Refusals.{refused}
 use Rattle.genotype_likelihoods.specs.Settings.{defaults}
-use Rattle.activity_scoring.specs.Score.{inRange, maxDepth, scoreWith, scoreOf}
+use Rattle.activity_scoring.specs.Score.{inRange, maxDepth, scoreWith}
 use Rattle.region_program.specs.Program.{pileScore, deepened}
 
 too-deep : (p : ℕ) (words : List ℕ) → maxDepth < length words → pileScore p words ≡ cond (not (inRange (record { 0 = p }) defaults)) (refused 1) (refused 4)

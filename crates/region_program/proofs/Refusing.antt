@@ -13,7 +13,7 @@ use Rattle.region_program.specs.declared.RegionStream.{RegionStream}
 use Rattle.region_program.specs.declared.Phase.{Phase}
 use Rattle.region_program.specs.declared.Phase.the-variants.{Settings, Loci, Pile}
 use Rattle.region_program.specs.declared.Step.the-variants.{Refused}
-use Rattle.region_program.specs.Program.{Reading, Answer, stops, profileMade, madeWith, beforeLoci, withinPile, actAt, actBy, Scoring}
+use Rattle.region_program.specs.Program.{Reading, stops, profileMade, madeWith, beforeLoci, withinPile, actAt, actBy, Scoring}
 use Rattle.region_program.specs.Stream.{placeOf, seen, pileObserved, pileAfter, kernelMade, kernelOpened, kernelAfter, Stepped}
 use Rattle.region_program.proofs.Acts.{refusal-keeps}
 

@@ -13,15 +13,13 @@ use lib.Seq.{length-take-le, take-all, take-suc-set}
 use lib.Ieee.{Float}
 use Rattle.lists.specs.Folds.{foldl-more}
 use Rattle.lists.specs.Loops.{foldl}
-use Rattle.pileup_words.specs.declared.StreamEvent.{StreamEvent}
-use Rattle.pileup_words.specs.declared.StreamEvent.the-variants.{Observation}
 use Rattle.pileup_words.specs.Words.{kindOf, isObservation}
 use Rattle.pileup_words.specs.Events.{eventOf, eventsOf}
 use Rattle.activity_profile.specs.declared.ActivityProfileRegion.{ActivityProfileRegion}
 use Rattle.activity_scoring.specs.Score.{maxDepth}
 use Rattle.region_program.specs.declared.RegionStream.{RegionStream}
 use Rattle.region_program.specs.declared.Phase.the-variants.{Pile}
-use Rattle.region_program.specs.Program.{Scoring, pileScore, Reading, Place, inPile, Answer, goes, again, line, stops, next, moved, deepened, withinPile, actAt, actBy, act, Printed}
+use Rattle.region_program.specs.Program.{Scoring, pileScore, Reading, inPile, Answer, goes, again, line, stops, next, moved, deepened, withinPile, actAt, actBy, act, Printed}
 use Rattle.region_program.specs.Stream.{seen, PILE, kept}
 use Rattle.region_program.specs.Feeding.{Fed, onward}
 use Rattle.region_program.specs.Run.{thenAct, actedOn, Kept, keptMore, keptAll, runAt}

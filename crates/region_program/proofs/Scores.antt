@@ -13,7 +13,7 @@ use Rattle.activity_profile.specs.declared.ActivityEvidence.the-variants.{Plain
 use Rattle.activity_profile.specs.Add.{at}
 use Rattle.genotype_likelihoods.specs.Settings.{defaults}
 use Rattle.activity_scoring.specs.Mean.{meanOf}
-use Rattle.activity_scoring.specs.Score.{inRange, maxDepth, allObservations, evidenceOf, activityOf, state, stateWith, stateOf, scoreWith, scoreOf}
+use Rattle.activity_scoring.specs.Score.{inRange, maxDepth, allObservations, evidenceOf, activityOf, state, stateWith, stateOf, scoreWith}
 use Rattle.region_program.specs.Program.{Reading, Place, atSettings, atLoci, inPile, pileScore}
 use Rattle.region_program.specs.Reach.{Possible, setting, word, depth}
 

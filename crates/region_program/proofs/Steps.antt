@@ -1,7 +1,7 @@
 -- What a step promises in each case, said of the code's state: the functions that act on events cite these. Assumes nothing.
 use mathlib.Core.Path.{_≡_, refl, sym, ap, _∙_}
-use mathlib.Core.Bool.{Bool, true, false, cond}
-use mathlib.Core.List.{List, []}
+use mathlib.Core.Bool.{false, cond}
+use mathlib.Core.List.{List}
 use Prim.Native.Nat.{ℕ, _≤_, _<_}
 use native.Mathlib.Omega.{arith}
 use borrow.Author.Tests.{le-ltb}
@@ -11,7 +11,7 @@ use lib.Ieee.{Float}
 use Rattle.genome.specs.Refusals.{Outcome, refused, answered, numberOf}
 use Rattle.genome.specs.declared.Refusal.{Refusal}
 use Rattle.pileup_words.specs.declared.StreamEvent.{StreamEvent}
-use Rattle.pileup_words.specs.declared.StreamEvent.the-variants.{Locus, Observation, Pop, Setting, Remainder, End}
+use Rattle.pileup_words.specs.declared.StreamEvent.the-variants.{Locus, Observation, Pop, Setting}
 use Rattle.band_pass_kernel.specs.Kernel.{band}
 use Rattle.band_pass_kernel.specs.Resolve.{copied}
 use Rattle.band_pass_kernel.proofs.Kernels.{take-written}
@@ -27,7 +27,7 @@ use Rattle.region_program.specs.declared.RegionStream.{RegionStream}
 use Rattle.region_program.specs.declared.Phase.{Phase}
 use Rattle.region_program.specs.declared.Phase.the-variants.{Settings, Loci, Pile}
 use Rattle.region_program.specs.declared.Step.the-variants.{Next, Again, Line, Refused}
-use Rattle.region_program.specs.Program.{Reading, inPile, goes, again, line, stops, next, bufferSize, profileMade, madeWith, zeroSize, setBy, beforeLoci, poppedBy, betweenPiles}
+use Rattle.region_program.specs.Program.{Reading, goes, again, line, stops, next, bufferSize, profileMade, madeWith, zeroSize, setBy, beforeLoci, poppedBy, betweenPiles}
 use Rattle.region_program.specs.Program.{Scoring, scoreAdded, scoreCells, endedWith, endedBy, withinPile, actAt, actBy}
 use Rattle.region_program.specs.Stream.{placeOf, kernelOf, seen, streamOf, mostActs, actsIn, actsLeft, pileAfter, kernelMade, kernelAfter, Stepped, EndsPile, PILE, kept}
 use Rattle.region_program.specs.Run.{keptMore}
@@ -145,7 +145,7 @@ module _ (scoring : Scoring) (s : RegionStream) (pile : List ℕ) (kernel cells 
       pub pop-held : (q : BandPassActivityProfile) → answered-so ≡ heldPop q
           → Stepped scoring (Pop value) s pile pile kernel kernel cells left-so (Next (streamOf (s .settings) q (s .phase) (next (s .index))))
       unfolding betweenPiles poppedBy pileAfter kernelAfter
-      pop-held q e = 
+      pop-held q e =
           record {
             answer = ap (λ (f : ℕ). goes (filtered q (s .phase) left-so (next (s .index)) f)) (same-filter (heldPop q) e) ∙ sym (at-loci (Pop value) p ∙ rw (v, e));
             pile-left = refl;
@@ -156,7 +156,7 @@ module _ (scoring : Scoring) (s : RegionStream) (pile : List ℕ) (kernel cells 
       pub pop-empty : (q : BandPassActivityProfile) → answered-so ≡ emptyPop q
           → Stepped scoring (Pop value) s pile pile kernel kernel cells left-so (Next (streamOf (s .settings) q (s .phase) (next (s .index))))
       unfolding betweenPiles poppedBy pileAfter kernelAfter
-      pop-empty q e = 
+      pop-empty q e =
           record {
             answer = ap (λ (f : ℕ). goes (filtered q (s .phase) left-so (next (s .index)) f)) (same-filter (emptyPop q) e) ∙ sym (at-loci (Pop value) p ∙ rw (v, e));
             pile-left = refl;

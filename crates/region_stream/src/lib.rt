@@ -1,6 +1,8 @@
-// The region program but for reading and writing, document 01's chapter of that name: one event in, one answer out. No public function has a `requires`.
+// The region program but for reading and writing, document 01's chapter of that name: one event in, one answer out. No
+// public function has a `requires`.
 //
-// The stream's state goes in by value and comes back. The pile that is being read, the kernel, the cells and the tables that piles are scored by are lent.
+// The stream's state goes in by value and comes back. The pile that is being read, the kernel, the cells and the tables
+// that piles are scored by are lent.
 use activity_profile::BandPassActivityProfile;
 use activity_profile::Made;
 use activity_profile::Popped;
@@ -49,8 +51,8 @@ pub fn new_stream() -> RegionStream
     }
 }
 
-// Acts on an event once. After `Again` and `Line` the same event is to be acted on again. The tables are those that `fill_tables` filled: with others the
-// scores are others.
+// Acts on an event once. After `Again` and `Line` the same event is to be acted on again. The tables are those that
+// `fill_tables` filled: with others the scores are others.
 pub fn act(
     event: StreamEvent,
     s: RegionStream,

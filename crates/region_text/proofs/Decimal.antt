@@ -8,11 +8,11 @@ use borrow.Author.Tests.{ltb-false}
 use lib.Dec.{ltb}
 use lib.ListN.{getD}
 use Rattle.lists.specs.Loops.{foldl}
-use Rattle.region_text.specs.Text.{digit, digitsOnto, decimal}
+use Rattle.region_text.specs.Text.{digitZero, digit, digitsOnto, decimal}
 
 -- a number so far, and one digit more
 abbrev read : ℕ → ℕ → ℕ
-read v d = v * 10 + (d - 48)
+read v d = v * 10 + (d - digitZero)
 
 digits-read : (k n : ℕ) (t : List ℕ) → n < 10 ^ k → foldl read 0 (digitsOnto k n t) ≡ foldl read n t
 unfolding digitsOnto foldl
@@ -29,17 +29,17 @@ pub decimal-read : (n : ℕ) → n < 2 ^ 64 → foldl read 0 (decimal n []) ≡ 
 unfolding decimal foldl
 decimal-read n h = digits-read 20 n [] (omega arith)
 
-digits-lead : (k n : ℕ) (t : List ℕ) → 0 < n → n < 10 ^ k → 48 < getD (digitsOnto k n t) 0 0
+digits-lead : (k n : ℕ) (t : List ℕ) → 0 < n → n < 10 ^ k → digitZero < getD (digitsOnto k n t) 0 0
 unfolding digitsOnto
 digits-lead zero n t s h = absurd (omega arith)
 digits-lead (suc k) n t s h = go (ltb n 10) refl (digits-lead k (n / 10) (digit (n % 10) ∷ t))
   where
-    go : (b : Bool) → ltb n 10 ≡ b → (0 < n / 10 → n / 10 < 10 ^ k → 48 < getD (digitsOnto k (n / 10) (digit (n % 10) ∷ t)) 0 0)
-        → 48 < getD (cond b (digit n ∷ t) (digitsOnto k (n / 10) (digit (n % 10) ∷ t))) 0 0
+    go : (b : Bool) → ltb n 10 ≡ b → (0 < n / 10 → n / 10 < 10 ^ k → digitZero < getD (digitsOnto k (n / 10) (digit (n % 10) ∷ t)) 0 0)
+        → digitZero < getD (cond b (digit n ∷ t) (digitsOnto k (n / 10) (digit (n % 10) ∷ t))) 0 0
     go true e f = omega arith
     go false e f = f (omega (arith, ltb-false n 10 e)) (omega (arith, h))
 
 -- no zero in front of a number that is not 0
-pub decimal-lead : (n : ℕ) (t : List ℕ) → 0 < n → n < 2 ^ 64 → 48 < getD (decimal n t) 0 0
+pub decimal-lead : (n : ℕ) (t : List ℕ) → 0 < n → n < 2 ^ 64 → digitZero < getD (decimal n t) 0 0
 unfolding decimal
 decimal-lead n t s h = digits-lead 20 n t s (omega arith)

@@ -11,9 +11,12 @@ blank = 32
 abbrev pub lineFeed : ℕ
 lineFeed = 10
 
--- the digit d, as text
+-- the digit d, as text: 0 is 48 in ASCII
+abbrev pub digitZero : ℕ
+digitZero = 48
+
 abbrev pub digit : ℕ → ℕ
-digit d = 48 + d
+digit d = digitZero + d
 
 -- the last k digits of n at most, and no zero in front, before the text t
 unfoldable pub digitsOnto : ℕ → ℕ → List ℕ → List ℕ
@@ -46,9 +49,13 @@ lineOnto r t =
 unfoldable pub lineText : ActivityProfileRegion → List ℕ
 lineText r = lineOnto r []
 
--- `refused` and a blank
+-- the letter at a place of the alphabet, a being 0, as text: a is 97 in ASCII
+abbrev pub letter : ℕ → ℕ
+letter n = 97 + n
+
+-- r e f u s e d, and a blank
 abbrev pub refusedWord : List ℕ → List ℕ
-refusedWord t = 114 ∷ 101 ∷ 102 ∷ 117 ∷ 115 ∷ 101 ∷ 100 ∷ blank ∷ t
+refusedWord t = letter 17 ∷ letter 4 ∷ letter 5 ∷ letter 20 ∷ letter 18 ∷ letter 4 ∷ letter 3 ∷ blank ∷ t
 
 -- "A refusal prints `refused`, number and word index"
 abbrev pub refusalOnto : ℕ → ℕ → List ℕ → List ℕ

@@ -1,6 +1,7 @@
 // The text of what the region program prints, in ASCII: document 01, 'The region program'. No public function has a `requires`.
 //
-// A text is written from the end of a lent buffer to its front, since a number's last digit comes first; each function answers where it starts.
+// A text is written from the end of a lent buffer to its front, since a number's last digit comes first; each function
+// answers where it starts.
 use activity_profile::ActivityProfileRegion;
 use genome::Refusal;
 ghost use mathlib.Core.Path.{_≡_};
@@ -13,9 +14,9 @@ ghost use Rattle.region_text.specs.Writing.{Writes, byteOnto, fourOnto};
 // Room for the text of a line: five numbers of at most 20 digits, a blank or the line feed after each.
 pub const TEXT: usize = 105;
 
-const BLANK: u8 = 32;
+const BLANK: u8 = b' ';
 
-const LINE_FEED: u8 = 10;
+const LINE_FEED: u8 = b'\n';
 
 // The line of a region: the buffer's bytes from the answer on. Those before it keep theirs.
 pub fn line_text(region: ActivityProfileRegion, text: &mut [u8; TEXT]) -> usize
@@ -60,8 +61,8 @@ fn refused(text: &mut [u8], at: usize) -> usize
     requires { ⌜ (8 ≤ at) × (at ≤ length (now text)) ⌝ }
     ensures { λ r. ⌜ Writes 8 refusedWord (now (text .entry)) at (now (text .exit)) r ⌝ }
 {
-    let half = four(text, at, 115, 101, 100, BLANK);
-    four(text, half, 114, 101, 102, 117)
+    let half = four(text, at, b's', b'e', b'd', BLANK);
+    four(text, half, b'r', b'e', b'f', b'u')
 }
 
 // Four bytes, before the text from `at` on.
@@ -100,9 +101,9 @@ fn digits(text: &mut [u8], at: usize, n: u64) -> usize
     let mut k = 20u32;
     while k > 0 {
         if rest < 10 {
-            return byte(text, p, 48 + rest as u8);
+            return byte(text, p, b'0' + rest as u8);
         }
-        p = byte(text, p, 48 + (rest % 10) as u8);
+        p = byte(text, p, b'0' + (rest % 10) as u8);
         rest = rest / 10;
         k -= 1;
     }

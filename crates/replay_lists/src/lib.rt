@@ -1,4 +1,5 @@
-// Replays lists of answers (docs/LISTS.md) through the proved library and compares every result bit for bit. No public function has a `requires`.
+// Replays lists of answers (docs/LISTS.md) through the proved library and compares every result bit for bit. No public
+// function has a `requires`.
 use answer_list::Answer;
 use libc::STDOUT_FILENO;
 use region_program::PRIORS;
@@ -107,12 +108,7 @@ fn tally(at: usize, same: bool, asked: &mut [u64; FUNCTIONS], agreed: &mut [u64;
 }
 
 // Whether the library's results are those of the answer.
-fn replay(
-    function: u64,
-    words: &[u64],
-    table: &[f64; TABLE],
-    priors: &[f64; PRIORS],
-) -> bool {
+fn replay(function: u64, words: &[u64], table: &[f64; TABLE], priors: &[f64; PRIORS]) -> bool {
     if function <= 9 {
         return replay_making::replay(function, words);
     }

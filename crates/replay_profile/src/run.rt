@@ -63,8 +63,8 @@ fn run_calls(words: &[u64], p: BandPassActivityProfile, kernel: &[f64], cells: &
     c.whole(words)
 }
 
-// One call: 0 and a state, with the refusal's number or 0; or 1 and the sizes of a pop, with its answer; then region start, last input, count
-// and cells[n].
+// One call: 0 and a state, with the refusal's number or 0; or 1 and the sizes of a pop, with its answer; then region
+// start, last input, count and cells[n].
 fn run_call(words: &[u64], r: Running, kernel: &[f64], cells: &mut [f64]) -> Running {
     let c = r.compared;
     let p = r.profile;

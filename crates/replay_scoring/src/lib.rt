@@ -1,5 +1,5 @@
-// Answers of the soft-clip count, of scoring and of its sums (docs/LISTS.md, 13 to 16), replayed through the proved library. No public function has a
-// `requires`.
+// Answers of the soft-clip count, of scoring and of its sums (docs/LISTS.md, 13 to 16), replayed through the proved
+// library. No public function has a `requires`.
 mod clips;
 mod scores;
 mod sums;

@@ -12,8 +12,9 @@ use genome::Ploidy;
 use genotype_likelihoods::HaplotypeCallerActivityScoringParams;
 ghost use Prim.Native.Nat.{_≤_};
 
-// contig, position, min base quality, ploidy, heterozygosity, deviation, deletion quality, alt multiplier, flow, depth, k, words[k]; the refusal's
-// number or 0, and where 0 probability, original probability and evidence. Word i of the pile is words[i % k].
+// contig, position, min base quality, ploidy, heterozygosity, deviation, deletion quality, alt multiplier, flow, depth,
+// k, words[k]; the refusal's number or 0, and where 0 probability, original probability and evidence. Word i of the pile
+// is words[i % k].
 pub fn score(words: &[u64]) -> bool {
     let n = depth_at(words, 9);
     let k = length_at(words, 10);

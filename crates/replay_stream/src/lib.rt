@@ -1,5 +1,6 @@
-// Replays an answer of the region program (docs/LISTS.md, 17) through the proved steps and texts, and compares every byte that is printed. A stream is given as
-// items: so many words, so many times over, the first of them raised by a step each time. No public function has a `requires`.
+// Replays an answer of the region program (docs/LISTS.md, 17) through the proved steps and texts, and compares every
+// byte that is printed. A stream is given as items: so many words, so many times over, the first of them raised by a
+// step each time. No public function has a `requires`.
 mod expected;
 
 use answer_list::number_at;
@@ -32,15 +33,7 @@ pub fn stream(words: &[u64], table: &[f64; TABLE], priors: &[f64; PRIORS]) -> bo
     let mut cells = [0.0f64; CELLS];
     let text = text_of(words);
     let r = start(std::num::wrapping_add_usize(text, 1));
-    let fed = items(
-        r,
-        words,
-        &mut pile,
-        &mut kernel,
-        &mut cells,
-        table,
-        priors,
-    );
+    let fed = items(r, words, &mut pile, &mut kernel, &mut cells, table, priors);
     let last = end(
         fed,
         words,
@@ -130,17 +123,7 @@ fn item(
         if s.over {
             return s;
         }
-        s = group(
-            s,
-            words,
-            at,
-            raise,
-            pile,
-            kernel,
-            cells,
-            table,
-            priors,
-        );
+        s = group(s, words, at, raise, pile, kernel, cells, table, priors);
         raise = std::num::wrapping_add_u32(raise, step);
         i += 1;
     }

@@ -1,5 +1,5 @@
-// Standard input as little-endian words, block by block, and standard output as text that waits in a buffer: for every program here. No public function has a
-// `requires`.
+// Standard input as little-endian words, block by block, and standard output as text that waits in a buffer: for every
+// program here. No public function has a `requires`.
 mod reading;
 mod writing;
 

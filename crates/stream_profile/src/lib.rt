@@ -1,5 +1,5 @@
-// What a stream does to its profile: it is made with the stream's settings, and each pile is scored by the lent tables and added. No public function has a
-// `requires`.
+// What a stream does to its profile: it is made with the stream's settings, and each pile is scored by the lent tables
+// and added. No public function has a `requires`.
 use activity_profile::Added;
 use activity_profile::BandPassActivityProfile;
 use activity_profile::Made;
@@ -48,13 +48,7 @@ pub fn make_profile(settings: StreamSettings, kernel: &mut [f64; KERNEL]) -> Mad
     let mut full = [0.0f64; KERNEL];
     let mut narrow = [0.0f64; KERNEL];
     let params = settings.params();
-    let made = profile_record::new(
-        CONTIG,
-        settings.contig_len,
-        params,
-        &mut full,
-        &mut narrow,
-    );
+    let made = profile_record::new(CONTIG, settings.contig_len, params, &mut full, &mut narrow);
     let Made::Profile(p) = made else {
         return made;
     };

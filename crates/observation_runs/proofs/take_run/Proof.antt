@@ -4,7 +4,7 @@ use borrow.Author.Needs.{needs}
 use lib.ListN.{getD, length}
 use lib.Seq.{length-take-le}
 use mathlib.Core.Bool.{true}
-use mathlib.Core.Path.{_≡_, refl, sym}
+use mathlib.Core.Path.{_≡_, sym}
 use native.Mathlib.Omega.{arith}
 use Rattle.pileup_words.specs.Words.{isObservation}
 use Rattle.lists.specs.Loops.{firstAt-before}

@@ -1,8 +1,8 @@
 -- `advance` meets its contract: the words that were taken are passed, and acting on the one behind them comes nearer.
 use borrow.Author.Needs.{needs}
-use mathlib.Core.Path.{_≡_, sym}
+use mathlib.Core.Path.{_≡_}
 use native.Mathlib.Omega.{arith}
-use Prim.Native.Nat.{ℕ, _+_, _*_, _≤_, _<_}
+use Prim.Native.Nat.{ℕ, _+_, _≤_}
 use Rattle.region_program.specs.declared.RegionStream.{RegionStream}
 use Rattle.region_program.specs.Stream.{actsLeft}
 use Rattle.region_feed.specs.declared.Found.{Found}

@@ -1,5 +1,4 @@
 -- `first` is safe: n words are there.
-use borrow.Author.Needs.{needs}
 use lib.Seq.{length-take-le}
 use mathlib.Core.Path.{sym}
 use Rattle.region_run.proofs.first.Statement.{statement}

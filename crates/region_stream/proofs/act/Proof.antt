@@ -21,7 +21,6 @@ enum-known-phase c = search needs
 within-pile-requires : tie.Need-within-pile-requires
 within-pile-requires c κs = search needs
 
-
 returns : tie.Need-returns
 returns c = c .before-loci .ensures _ _ _
 

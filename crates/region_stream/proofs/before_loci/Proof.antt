@@ -1,11 +1,11 @@
 -- `before_loci` meets its contract, event by event.
 use Rattle.genome.specs.declared.Refusal.the-variants.{Word}
-use Rattle.pileup_words.specs.declared.StreamEvent.the-variants.{Observation, Remainder, End}
+use Rattle.pileup_words.specs.declared.StreamEvent.the-variants.{Remainder, End}
 use Rattle.region_program.proofs.Steps.{refuses, at-settings}
 use Rattle.region_program.specs.Program.{beforeLoci}
 use Rattle.region_program.specs.Stream.{kernelAfter, pileAfter}
 use borrow.Author.Needs.{needs}
-use mathlib.Core.Path.{_∙_, refl, sym}
+use mathlib.Core.Path.{refl, sym}
 use Rattle.region_stream.proofs.before_loci.Statement.{statement}
 use Rattle.region_stream.proofs.before_loci.Tie as tie
 
@@ -35,7 +35,6 @@ enum-told-2 c = search needs
 
 enum-told-3 : tie.Need-enum-told-3
 enum-told-3 c = search needs
-
 
 returns : tie.Need-returns
 returns c = λ scoring pile cells. rw (c .before .before .before .event .given .1) (c .open-first .ensures scoring pile cells)

@@ -1,11 +1,11 @@
 -- `between_piles` meets its contract, event by event.
 use Rattle.genome.specs.declared.Refusal.the-variants.{Word}
-use Rattle.pileup_words.specs.declared.StreamEvent.the-variants.{Observation, Remainder, Setting, End}
+use Rattle.pileup_words.specs.declared.StreamEvent.the-variants.{Remainder, End}
 use Rattle.region_program.proofs.Steps.{refuses, at-loci, opened-next}
 use Rattle.region_program.specs.Program.{betweenPiles}
 use Rattle.region_program.specs.Stream.{kernelAfter, pileAfter}
 use borrow.Author.Needs.{needs}
-use mathlib.Core.Path.{_∙_, refl, sym}
+use mathlib.Core.Path.{refl, sym}
 use Rattle.region_stream.proofs.between_piles.Statement.{statement}
 use Rattle.region_stream.proofs.between_piles.Tie as tie
 
@@ -32,7 +32,6 @@ enum-told-3 c = search needs
 
 enum-told-4 : tie.Need-enum-told-4
 enum-told-4 c = search needs
-
 
 returns : tie.Need-returns
 returns c = λ scoring pile kernel.

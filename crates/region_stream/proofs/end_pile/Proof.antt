@@ -25,7 +25,6 @@ closed-requires c κs = search needs
 enum-known-added-2 : tie.Need-enum-known-added-2
 enum-known-added-2 c = search needs
 
-
 returns : tie.Need-returns
 returns c =
     let told = c .before .before in

@@ -13,7 +13,6 @@ keep-requires c κs = search needs
 wrapping-add-u64-requires : tie.Need-wrapping-add-u64-requires
 wrapping-add-u64-requires c κs = search needs
 
-
 returns : tie.Need-returns
 returns c = λ scoring kernel cells.
     let keep = c .before .before .before in

@@ -18,7 +18,6 @@ opened-requires c κs = search needs
 enum-known-made-2 : tie.Need-enum-known-made-2
 enum-known-made-2 c = search needs
 
-
 returns : tie.Need-returns
 returns c = λ scoring pile cells.
     let told = c .before .before in

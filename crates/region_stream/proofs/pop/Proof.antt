@@ -43,7 +43,6 @@ advanced-requires-2 c κs = search needs
 enum-known-popped-4 : tie.Need-enum-known-popped-4
 enum-known-popped-4 c = search needs
 
-
 returns-2 : tie.Need-returns-2
 returns-2 c = λ scoring pile kernel.
     let told = c .before .before in

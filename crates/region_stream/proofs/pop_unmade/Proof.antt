@@ -26,7 +26,6 @@ returns-2 c = λ scoring pile kernel cells.
 advanced-requires : tie.Need-advanced-requires
 advanced-requires c κs = search needs
 
-
 returns-3 : tie.Need-returns-3
 returns-3 c = λ scoring pile kernel cells.
     let first = c .before .before .before .before .before in

@@ -18,7 +18,6 @@ wrapping-add-u64-requires c κs = search needs
 enum-known-setting-2 : tie.Need-enum-known-setting-2
 enum-known-setting-2 c = search needs
 
-
 returns : tie.Need-returns
 returns c = λ scoring pile kernel cells.
     let told = c .before .before in

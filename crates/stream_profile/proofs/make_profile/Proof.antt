@@ -63,10 +63,11 @@ returns-2 c =
     let m = made-so call in
     let e = call .new .ensures in
     let a = call .before .before .before .before .args in
-    let long : length (a .kernel .now) ≡ bufferSize = search needs in
-    (ap makingOf (sym (told .made .given .1)) ∙ m,
-    simp (copy .1, part, e .1 .0, e .1 .1, call .before .before .before .params .ensures)
-    (kernel-copied (a .settings) zeros zeros (a .kernel .now) _ refl refl long (sym m ∙ ap makingOf (told .made .given .1))))
+    let long : length (a .kernel .now) ≡ bufferSize = search needs in (
+      ap makingOf (sym (told .made .given .1)) ∙ m,
+      simp (copy .1, part, e .1 .0, e .1 .1, call .before .before .before .params .ensures)
+          (kernel-copied (a .settings) zeros zeros (a .kernel .now) _ refl refl long (sym m ∙ ap makingOf (told .made .given .1))),
+    )
 
 pub make-profile-spec : {M : Type 1} → statement M
 make-profile-spec =

@@ -7,7 +7,7 @@ use borrow.Author.Tests.{le-ltb, lt-ltb}
 use lib.Ieee.{nan}
 use lib.ListN.{length, length-set}
 use lib.Seq.{paste, paste-suc, paste-zero, take-all}
-use mathlib.Core.Path.{_∙_, _≡_, refl, sym}
+use mathlib.Core.Path.{_∙_, _≡_, refl}
 use native.Mathlib.Omega.{arith}
 use Rattle.band_pass_kernel.specs.Resolve.{copied}
 use Rattle.band_pass_kernel.proofs.resolve.copy_kernel.Statement.{statement}

@@ -1,5 +1,4 @@
 -- `event_of` meets its contract: its tests are the kinds, in their order.
-use borrow.Author.Needs.{needs}
 use borrow.Author.Tests.{eq-eqb, ne-eqb}
 use Rattle.pileup_words.specs.Events.{eventOf}
 use Rattle.pileup_words.proofs.event.event_of.Statement.{statement}

@@ -32,7 +32,7 @@ returns : tie.Need-returns
 returns c =
     let call = c .before .before .before .before .before .before in
     let told = c .before .before .added .given .1 in
-    simp (← call .before .before .before .profile-of .ensures, ← call .before .before .evidence-from .ensures, ← call .add .ensures .0, told, c .record-of .ensures) (refl, (refl, call .add .ensures .1))
+    simp (← call .before .before .before .profile-of .ensures, ← call .before .before .evidence-from .ensures, ← call .add .ensures .0, told, c .record-of .ensures) (record { number = refl; written = refl }, call .add .ensures .1)
 
 same-length-2 : tie.Need-same-length-2
 same-length-2 c = search needs
@@ -41,7 +41,7 @@ returns-2 : tie.Need-returns-2
 returns-2 c =
     let call = c .before .before .before .before .before .before in
     let told = c .before .before .added2 .given .1 in
-    simp (← call .before .before .before .profile-of .ensures, ← call .before .before .evidence-from .ensures, ← call .add .ensures .0, told, c .number .ensures) (refl, (refl, call .add .ensures .1))
+    simp (← call .before .before .before .profile-of .ensures, ← call .before .before .evidence-from .ensures, ← call .add .ensures .0, told, c .number .ensures) (record { number = refl; written = refl }, call .add .ensures .1)
 
 pub region-picker-add-spec : {M : Type 1} → statement M
 region-picker-add-spec =

@@ -29,7 +29,7 @@ returns : tie.Need-returns
 returns c =
     let call = c .before .before .before .before .before .before .before .before in
     let told = c .before .before .made .given .1 in
-    simp (← call .new .ensures .0, told, c .record-of .ensures) (refl, (refl, call .new .ensures .1))
+    simp (← call .new .ensures .0, told, c .record-of .ensures) (record { number = refl; written = refl }, call .new .ensures .1)
 
 same-length-3 : tie.Need-same-length-3
 same-length-3 c = search needs
@@ -41,7 +41,7 @@ returns-2 : tie.Need-returns-2
 returns-2 c =
     let call = c .before .before .before .before .before .before .before .before in
     let told = c .before .before .made2 .given .1 in
-    simp (← call .new .ensures .0, told, c .number .ensures) (refl, (refl, call .new .ensures .1))
+    simp (← call .new .ensures .0, told, c .number .ensures) (record { number = refl; written = refl }, call .new .ensures .1)
 
 pub region-picker-make-spec : {M : Type 1} → statement M
 region-picker-make-spec =

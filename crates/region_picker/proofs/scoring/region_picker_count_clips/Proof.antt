@@ -19,12 +19,12 @@ number-requires c κs = search needs
 returns : tie.Need-returns
 returns c =
     let call = c .before .before .before in
-    simp (← call .count-high-quality-soft-clip-bases-rcm .ensures, c .before .counted .given .1) (refl, refl)
+    simp (← call .count-high-quality-soft-clip-bases-rcm .ensures, c .before .counted .given .1) (record { number = refl; written = refl })
 
 returns-2 : tie.Need-returns-2
 returns-2 c =
     let call = c .before .before .before .before in
-    simp (← call .count-high-quality-soft-clip-bases-rcm .ensures, c .before .before .counted2 .given .1, c .number .ensures) (refl, refl)
+    simp (← call .count-high-quality-soft-clip-bases-rcm .ensures, c .before .before .counted2 .given .1, c .number .ensures) (record { number = refl; written = refl })
 
 pub region-picker-count-clips-spec : {M : Type 1} → statement M
 region-picker-count-clips-spec =

@@ -25,12 +25,12 @@ number-requires c κs = search needs
 returns : tie.Need-returns
 returns c =
     let call = c .before .before .before .before .before in
-    simp (← call .before .scoring-params .ensures, ← call .haplotype-caller-activity-profile-state-by-tables .ensures, c .before .before .before .scored .given .1, c .evidence-fields .ensures) (refl, (refl, refl))
+    simp (← call .before .scoring-params .ensures, ← call .haplotype-caller-activity-profile-state-by-tables .ensures, c .before .before .before .scored .given .1, c .evidence-fields .ensures) (record { number = refl; activity-written = refl; evidence-written = refl })
 
 returns-2 : tie.Need-returns-2
 returns-2 c =
     let call = c .before .before .before .before in
-    simp (← call .before .scoring-params .ensures, ← call .haplotype-caller-activity-profile-state-by-tables .ensures, c .before .before .scored2 .given .1, c .number .ensures) (refl, (refl, refl))
+    simp (← call .before .scoring-params .ensures, ← call .haplotype-caller-activity-profile-state-by-tables .ensures, c .before .before .scored2 .given .1, c .number .ensures) (record { number = refl; activity-written = refl; evidence-written = refl })
 
 pub region-picker-score-spec : {M : Type 1} → statement M
 region-picker-score-spec =
