@@ -1,6 +1,5 @@
 //! Document 01's ranges and refusals, put over the Rust, which has none of them or others.
 use crate::activity_profile::{BandPassActivityProfileParams, PositiveSigma};
-use crate::scores::Scoring;
 
 pub const SETTING: u64 = 1;
 pub const KERNEL_BUFFER: u64 = 2;
@@ -50,6 +49,30 @@ impl Settings {
         }
         0
     }
+}
+
+/// The settings of scoring as they are handed in, before any check.
+#[derive(Clone, Copy)]
+pub struct Scoring {
+    pub min_qual: u8,
+    pub ploidy: u8,
+    pub heterozygosity: f64,
+    pub deviation: f64,
+    pub deletion_qual: u8,
+    pub alt_multiplier: f64,
+    pub flow: bool,
+}
+
+impl Scoring {
+    pub const DEFAULT: Self = Self {
+        min_qual: 10,
+        ploidy: 2,
+        heterozygosity: 1e-3,
+        deviation: 0.01,
+        deletion_qual: 30,
+        alt_multiplier: 1.0,
+        flow: false,
+    };
 }
 
 /// The number of the refusal of a score, or 0: scoring 1, 4, 3.

@@ -1,9 +1,9 @@
 //! The region program as document 01 words it: words in, lines out. Scores are the Rust's; each accepted add and each pop goes through the Rust's profile
 //! and through document 01's rules, which have to agree.
 use crate::document::{self, Popped, Record, Sizes, State};
-use crate::refusals::{scoring_refusal, Settings, MAX_POSITION};
+use crate::refusals::{scoring_refusal, Scoring, Settings, MAX_POSITION};
 use crate::runs::Rust;
-use crate::scores::{score, Scoring};
+use crate::scores::score;
 
 const CELLS: usize = 4096;
 const CONTIG: u32 = 0;

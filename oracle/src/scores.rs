@@ -8,34 +8,12 @@ use crate::bio_ids::Ploidy;
 use crate::document::State;
 use crate::list::{Answer, Function};
 use crate::random::Random;
-use crate::refusals::{scoring_refusal, MAX_POSITION};
+use crate::refusals::{scoring_refusal, Scoring, MAX_POSITION};
 use std::io::Write;
-
-/// The settings of scoring as they are handed in, before any check.
-#[derive(Clone, Copy)]
-pub struct Scoring {
-    pub min_qual: u8,
-    pub ploidy: u8,
-    pub heterozygosity: f64,
-    pub deviation: f64,
-    pub deletion_qual: u8,
-    pub alt_multiplier: f64,
-    pub flow: bool,
-}
 
 const DEFAULT: Scoring = Scoring::DEFAULT;
 
 impl Scoring {
-    pub const DEFAULT: Self = Self {
-        min_qual: 10,
-        ploidy: 2,
-        heterozygosity: 1e-3,
-        deviation: 0.01,
-        deletion_qual: 30,
-        alt_multiplier: 1.0,
-        flow: false,
-    };
-
     fn params(&self) -> HaplotypeCallerActivityScoringParams {
         HaplotypeCallerActivityScoringParams {
             min_base_quality_score: self.min_qual,

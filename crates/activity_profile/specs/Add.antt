@@ -7,7 +7,7 @@ use lib.ListN.{length}
 use lib.Ieee.{Float, binary64, add, mul, lt}
 use Rattle.lists.specs.Each.{each}
 use Rattle.doubles.specs.Constants.{zeroF}
-use Rattle.genome.specs.Refusals.{numberOf}
+use Rattle.genome.specs.Refusals.{numberOf, brokenRefusal, contigRefusal, offContigRefusal, activityRefusal, notNextRefusal, cellsRefusal}
 use Rattle.genome.specs.Ranges.{isProbability}
 use Rattle.band_pass_kernel.specs.Kernel.{band}
 use Rattle.activity_profile.specs.declared.BandPassActivityProfile.{BandPassActivityProfile}
@@ -101,12 +101,12 @@ notNext p s = ltb 0 (p .count) && not (eqb (at s) (p .«last_input_pos» + 1))
 -- "add 5, 6, 7, 8, 9, 10", with n cells and a kernel of length k lent
 unfoldable pub addVerdict : BandPassActivityProfile → ℕ → ℕ → ActivityProfileState → Verdict
 addVerdict p n k s =
-    cond (brokenAdd p n k) (refusal 5)
-    (cond (otherContig p s) (refusal 6)
-    (cond (offContig p s) (refusal 7)
-    (cond (noActivity s) (refusal 8)
-    (cond (notNext p s) (refusal 9)
-    (cond (ltb n (needed p s)) (refusal 10)
+    cond (brokenAdd p n k) (refusal brokenRefusal)
+    (cond (otherContig p s) (refusal contigRefusal)
+    (cond (offContig p s) (refusal offContigRefusal)
+    (cond (noActivity s) (refusal activityRefusal)
+    (cond (notNext p s) (refusal notNextRefusal)
+    (cond (ltb n (needed p s)) (refusal cellsRefusal)
     granted)))))
 
 -- a verdict of the code in these terms

@@ -4,7 +4,7 @@ use mathlib.Core.List.{List}
 use mathlib.Core.Path.{_≡_}
 use Prim.Native.Nat.{ℕ, _≤_}
 use lib.Ieee.{Float}
-use Rattle.genome.specs.Refusals.{Outcome, refused, answered, numberOf}
+use Rattle.genome.specs.Refusals.{Outcome, refused, answered, numberOf, settingRefusal}
 use Rattle.genome.specs.Ranges.{isPosition}
 use Rattle.band_pass_kernel.specs.declared.BandPassActivityProfileParams.{BandPassActivityProfileParams}
 use Rattle.band_pass_kernel.specs.Resolve.{maxFilter, inRange, resolution, fullAfter, narrowAfter}
@@ -32,7 +32,7 @@ madeOf contig len s (answered f) = answered (freshProfile contig len s f)
 
 -- refusal 1 of the contig length, then those of the kernel's settings and buffers, n and m being the buffers' lengths
 unfoldable pub making : ℕ → ℕ → BandPassActivityProfileParams → ℕ → ℕ → Outcome BandPassActivityProfile
-making contig len s n m = cond (isPosition len) (madeOf contig len s (resolution s n m)) (refused 1)
+making contig len s n m = cond (isPosition len) (madeOf contig len s (resolution s n m)) (refused settingRefusal)
 
 -- an answer of the code in these terms
 abbrev pub makingOf : Made → Outcome BandPassActivityProfile

@@ -8,7 +8,7 @@ use lib.Ieee.{Float, lt, le}
 use Rattle.lists.specs.Each.{each}
 use Rattle.lists.specs.Loops.{down, firstAt}
 use Rattle.doubles.specs.Constants.{zeroF}
-use Rattle.genome.specs.Refusals.{numberOf}
+use Rattle.genome.specs.Refusals.{numberOf, brokenRefusal, zeroSizeRefusal}
 use Rattle.activity_profile.specs.declared.BandPassActivityProfile.{BandPassActivityProfile}
 use Rattle.activity_profile.specs.declared.ActivityProfileRegion.{ActivityProfileRegion}
 use Rattle.activity_profile.specs.declared.Popped.{Popped}
@@ -22,8 +22,8 @@ use Rattle.activity_profile.specs.Profile.{D, holding, broken}
 -- "pop 5, 11", with n cells lent
 unfoldable pub popVerdict : BandPassActivityProfile → ℕ → ℕ → ℕ → Verdict
 popVerdict p n least most =
-    cond (broken p n) (refusal 5)
-    (cond (eqb least 0 || eqb most 0) (refusal 11)
+    cond (broken p n) (refusal brokenRefusal)
+    (cond (eqb least 0 || eqb most 0) (refusal zeroSizeRefusal)
     granted)
 
 pub data Turn : Type 0 where

@@ -9,7 +9,7 @@ use lib.Ieee.{Float, binary64, ofBits, toUnsigned, sub, lt, nan}
 use Rattle.lists.specs.Loops.{foldl}
 use Rattle.doubles.specs.Constants.{zeroF}
 use Rattle.genome.specs.declared.GenomePosition.{GenomePosition}
-use Rattle.genome.specs.Refusals.{numberOf, Outcome, refused, answered}
+use Rattle.genome.specs.Refusals.{numberOf, Outcome, refused, answered, settingRefusal, wordRefusal, depthRefusal}
 use Rattle.genome.specs.Ranges.{isPosition}
 use Rattle.genotype_likelihoods.specs.declared.HaplotypeCallerActivityScoringParams.{HaplotypeCallerActivityScoringParams}
 use Rattle.genotype_likelihoods.specs.Settings.{settingsInRange}
@@ -91,9 +91,9 @@ scoredOf (Refused r) = refused (numberOf r)
 -- "scoring 1, 4, 3", or the state
 unfoldable pub scoreWith : ActivityProfileState → GenomePosition → List ℕ → HaplotypeCallerActivityScoringParams → Outcome ActivityProfileState
 scoreWith x p words s =
-    cond (not (inRange p s)) (refused 1)
-    (cond (ltb maxDepth (length words)) (refused 4)
-    (cond (not (allObservations words)) (refused 3)
+    cond (not (inRange p s)) (refused settingRefusal)
+    (cond (ltb maxDepth (length words)) (refused depthRefusal)
+    (cond (not (allObservations words)) (refused wordRefusal)
     (answered x)))
 
 abbrev pub scoreOf : ℕ → GenomePosition → List ℕ → HaplotypeCallerActivityScoringParams → Outcome ActivityProfileState

@@ -3,18 +3,52 @@ use Prim.Native.Nat.{ℕ}
 use Rattle.genome.specs.declared.Refusal.{Refusal}
 use Rattle.genome.specs.declared.Refusal.the-variants.{Setting, KernelBuffer, Word, Depth, BrokenProfile, Contig, OffContig, Activity, NotNext, Cells, ZeroSize}
 
+-- the numbers of document 01, in its words
+abbrev pub settingRefusal : ℕ
+settingRefusal = 1
+
+abbrev pub kernelBufferRefusal : ℕ
+kernelBufferRefusal = 2
+
+abbrev pub wordRefusal : ℕ
+wordRefusal = 3
+
+abbrev pub depthRefusal : ℕ
+depthRefusal = 4
+
+abbrev pub brokenRefusal : ℕ
+brokenRefusal = 5
+
+abbrev pub contigRefusal : ℕ
+contigRefusal = 6
+
+abbrev pub offContigRefusal : ℕ
+offContigRefusal = 7
+
+abbrev pub activityRefusal : ℕ
+activityRefusal = 8
+
+abbrev pub notNextRefusal : ℕ
+notNextRefusal = 9
+
+abbrev pub cellsRefusal : ℕ
+cellsRefusal = 10
+
+abbrev pub zeroSizeRefusal : ℕ
+zeroSizeRefusal = 11
+
 abbrev pub numberOf : Refusal → ℕ
-numberOf Setting = 1
-numberOf KernelBuffer = 2
-numberOf Word = 3
-numberOf Depth = 4
-numberOf BrokenProfile = 5
-numberOf Contig = 6
-numberOf OffContig = 7
-numberOf Activity = 8
-numberOf NotNext = 9
-numberOf Cells = 10
-numberOf ZeroSize = 11
+numberOf Setting = settingRefusal
+numberOf KernelBuffer = kernelBufferRefusal
+numberOf Word = wordRefusal
+numberOf Depth = depthRefusal
+numberOf BrokenProfile = brokenRefusal
+numberOf Contig = contigRefusal
+numberOf OffContig = offContigRefusal
+numberOf Activity = activityRefusal
+numberOf NotNext = notNextRefusal
+numberOf Cells = cellsRefusal
+numberOf ZeroSize = zeroSizeRefusal
 
 -- a refusal's number, or the answer
 pub data Outcome (A : Type 0) : Type 0 where

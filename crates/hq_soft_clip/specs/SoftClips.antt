@@ -5,7 +5,7 @@ use Prim.Native.Nat.{ℕ, _+_, _/_, _%_, min}
 use lib.Dec.{eqb, ltb}
 use lib.ListN.{take, drop}
 use Rattle.lists.specs.Loops.{foldl}
-use Rattle.genome.specs.Refusals.{Outcome, refused, answered, numberOf}
+use Rattle.genome.specs.Refusals.{Outcome, refused, answered, numberOf, wordRefusal}
 use Rattle.hq_soft_clip.specs.declared.Walk.{Walk}
 use Rattle.hq_soft_clip.specs.declared.SoftClips.{SoftClips}
 use Rattle.hq_soft_clip.specs.declared.SoftClips.the-variants.{Count, Refused}
@@ -53,7 +53,7 @@ start = record { at = 0; count = 0 }
 
 -- the number of a refusal, or the count
 unfoldable pub clipCount : List ℕ → List ℕ → Outcome ℕ
-clipCount cigar qualities = cond (foldl orUnknown false cigar) (refused 3) (answered (foldl (walked qualities) start cigar .count))
+clipCount cigar qualities = cond (foldl orUnknown false cigar) (refused wordRefusal) (answered (foldl (walked qualities) start cigar .count))
 
 -- an answer of the code in these terms
 abbrev pub clipCountOf : SoftClips → Outcome ℕ

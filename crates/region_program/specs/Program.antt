@@ -5,7 +5,7 @@ use Prim.Native.Nat.{ℕ, zero, suc, _+_, _%_, _^_}
 use lib.Dec.{ltb, eqb}
 use lib.ListN.{length}
 use lib.Ieee.{Float}
-use Rattle.genome.specs.Refusals.{Outcome, refused, answered}
+use Rattle.genome.specs.Refusals.{Outcome, refused, answered, wordRefusal, zeroSizeRefusal}
 use Rattle.pileup_words.specs.declared.StreamEvent.{StreamEvent}
 use Rattle.pileup_words.specs.declared.StreamEvent.the-variants.{Locus, Observation, Pop, Setting, Remainder, End}
 use Rattle.pileup_words.specs.Events.{eventsOf}
@@ -60,7 +60,7 @@ carrying s p cells place i = record { settings = s .settings; profile = p; kerne
 
 -- "Any other word .. is refused 3", at its own index
 abbrev pub stray : Reading → Answer
-stray s = stops 3 (s .index) s
+stray s = stops wordRefusal (s .index) s
 
 -- ---- before the first locus
 
@@ -89,7 +89,7 @@ abbrev pub zeroSize : StreamSettings → Bool
 zeroSize t = eqb (t .«min_region_size») 0 || eqb (t .«max_region_size») 0
 
 abbrev pub popUnmade : ℕ → Reading → Answer
-popUnmade value s = cond (ltb 1 value) (stray s) (cond (zeroSize (s .settings)) (stops 11 (s .index) s) (goes (moved s (s .place) (next (s .index)))))
+popUnmade value s = cond (ltb 1 value) (stray s) (cond (zeroSize (s .settings)) (stops zeroSizeRefusal (s .index) s) (goes (moved s (s .place) (next (s .index)))))
 
 unfoldable pub setBy : Reading → Outcome StreamSettings → Answer
 setBy s (refused n) = stops n (s .index) s

@@ -3,7 +3,7 @@ use mathlib.Core.Path.{_≡_}
 use mathlib.Core.List.{List, [], _∷_, _++_}
 use Prim.Native.Nat.{ℕ}
 use lib.Ieee.{Float}
-use Rattle.genome.specs.Refusals.{answered}
+use Rattle.genome.specs.Refusals.{answered, settingRefusal, wordRefusal, depthRefusal, offContigRefusal, notNextRefusal, cellsRefusal, zeroSizeRefusal}
 use Rattle.pileup_words.specs.declared.StreamEvent.{StreamEvent}
 use Rattle.activity_profile.specs.declared.BandPassActivityProfile.{BandPassActivityProfile}
 use Rattle.activity_profile.specs.declared.ActivityProfileRegion.{ActivityProfileRegion}
@@ -45,13 +45,13 @@ pub record OfCalls (cells : List Float) (read : List ℕ) (lines : List Activity
 
 -- the refusals that a stream can be ended by
 pub data Possible : ℕ → Type 0 where
-  setting : Possible 1
-  word : Possible 3
-  depth : Possible 4
-  offTheContig : Possible 7
-  notTheNext : Possible 9
-  tooFewCells : Possible 10
-  zeroSize : Possible 11
+  setting : Possible settingRefusal
+  word : Possible wordRefusal
+  depth : Possible depthRefusal
+  offTheContig : Possible offContigRefusal
+  notTheNext : Possible notNextRefusal
+  tooFewCells : Possible cellsRefusal
+  zeroSize : Possible zeroSizeRefusal
 
 abbrev pub ClosePossible : Close → Type 0
 ClosePossible finished = Unit {0}

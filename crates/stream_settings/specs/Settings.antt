@@ -4,7 +4,7 @@ use Prim.Native.Nat.{ℕ}
 use lib.Dec.{eqb}
 use lib.Ieee.{binary64, ofBits}
 use Rattle.numbers.specs.Ranges.{between}
-use Rattle.genome.specs.Refusals.{Outcome, refused, answered, numberOf}
+use Rattle.genome.specs.Refusals.{Outcome, refused, answered, numberOf, settingRefusal, wordRefusal}
 use Rattle.genome.specs.Ranges.{maxPosition}
 use Rattle.band_pass_kernel.specs.declared.BandPassActivityProfileParams.{BandPassActivityProfileParams}
 use Rattle.band_pass_kernel.specs.Resolve.{maxDistance, maxFilter}
@@ -38,7 +38,7 @@ paramsOf s = record {
 
 -- "Values are range-checked, and refused 1, at their word"
 abbrev pub rangedOf : StreamSettings → ℕ → ℕ → ℕ → Outcome StreamSettings
-rangedOf s low value high = cond (between low value high) (answered s) (refused 1)
+rangedOf s low value high = cond (between low value high) (answered s) (refused settingRefusal)
 
 -- "a repeated field replaces"; a field that there is not is one of "Any other word .. refused 3"
 unfoldable pub withField : StreamSettings → ℕ → ℕ → Outcome StreamSettings
@@ -55,7 +55,7 @@ withField s field v =
     (cond (eqb field 4) (rangedOf (settings most least extension v filter length) 0 v maxDistance)
     (cond (eqb field 5) (rangedOf (settings most least extension distance v length) 0 v maxFilter)
     (cond (eqb field 6) (rangedOf (settings most least extension distance filter v) 1 v maxPosition)
-    (refused 3))))))
+    (refused wordRefusal))))))
 
 -- an answer of the code in these terms
 abbrev pub settingOf : Setting → Outcome StreamSettings

@@ -17,6 +17,8 @@ mod hq_soft_clip;
 mod minimal_genotyping;
 mod original;
 mod part;
+#[path = "../../region_picker.rs"]
+mod region_picker;
 #[path = "../../../oracle/src/random.rs"]
 mod random;
 #[path = "../../../oracle/src/stand_ins.rs"]

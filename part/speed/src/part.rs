@@ -1,89 +1,9 @@
-//! The part's functions (region_picker.h), and the profile and the tables that a caller keeps.
+//! The part, and the profile and the tables that a caller keeps.
 
-#[allow(dead_code)]
-extern "C" {
-    fn region_picker_make(
-        profile: *mut u32,
-        contig: u32,
-        contig_len: u32,
-        distance: u32,
-        threshold: f64,
-        max_filter: u32,
-        sigma: f64,
-        adaptive: bool,
-        full: *mut f64,
-        full_len: usize,
-        narrow: *mut f64,
-        narrow_len: usize,
-    ) -> u32;
-    fn region_picker_kernel(
-        kernel: *mut f64,
-        kernel_len: usize,
-        filter: u32,
-        max_filter: u32,
-        full: *const f64,
-        full_len: usize,
-        narrow: *const f64,
-        narrow_len: usize,
-    ) -> usize;
-    fn region_picker_add(
-        profile: *mut u32,
-        threshold: f64,
-        contig: u32,
-        pos: u32,
-        active_prob: f64,
-        original: f64,
-        has_clips: bool,
-        clip_bases: u32,
-        kernel: *const f64,
-        kernel_len: usize,
-        cells: *mut f64,
-        cells_len: usize,
-    ) -> u32;
-    fn region_picker_pop(
-        profile: *mut u32,
-        threshold: f64,
-        extension: u32,
-        min: u32,
-        max: u32,
-        forced: bool,
-        cells: *mut f64,
-        cells_len: usize,
-        region: *mut u32,
-    ) -> u32;
-    fn region_picker_table_length(ploidy: u8) -> usize;
-    fn region_picker_fill_tables(
-        table: *mut f64,
-        table_len: usize,
-        priors: *mut f64,
-        priors_len: usize,
-        min_qual: u8,
-        ploidy: u8,
-        heterozygosity: f64,
-        deviation: f64,
-        deletion_qual: u8,
-        alt_multiplier: f64,
-        flow: bool,
-    );
-    fn region_picker_score(
-        pos: u32,
-        pile: *const u32,
-        pile_len: usize,
-        table: *const f64,
-        table_len: usize,
-        priors: *const f64,
-        priors_len: usize,
-        min_qual: u8,
-        ploidy: u8,
-        heterozygosity: f64,
-        deviation: f64,
-        deletion_qual: u8,
-        alt_multiplier: f64,
-        flow: bool,
-        activity: *mut f64,
-        evidence: *mut u32,
-    ) -> u32;
-}
+use crate::region_picker::{
+    region_picker_add, region_picker_fill_tables, region_picker_kernel, region_picker_make, region_picker_pop, region_picker_score,
+    region_picker_table_length,
+};
 
 /// Scoring with the Rust's defaults and a ploidy, its tables filled.
 pub struct Scorer {

@@ -1,5 +1,7 @@
 //! Reads the words of a small stream from standard input and prints its regions, by the part alone: what the region program prints for them.
 mod picker;
+#[path = "../../../region_picker.rs"]
+mod region_picker;
 
 use picker::{Profile, Refusal, Scorer};
 use std::io::Read;
