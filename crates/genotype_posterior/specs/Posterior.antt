@@ -7,7 +7,7 @@ use Prim.Native.Nat.{ℕ, _+_, _-_}
 use lib.IntN.{pos}
 use lib.Dec.{eqb}
 use lib.ListN.{length, getD}
-use lib.Ieee.{Float, binary64, ofBits, ofInt, add, sub, mul, div, nan}
+use lib.Ieee.{Float, binary64, ofInt, add, sub, mul, div, nan}
 use Rattle.lists.specs.Each.{each}
 use Rattle.doubles.specs.Constants.{zeroF, oneF}
 use Rattle.elementary.specs.Ln.{log10E}

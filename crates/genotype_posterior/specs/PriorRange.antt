@@ -6,7 +6,7 @@ use native.Mathlib.Nat.{le-trans}
 use native.Mathlib.Numerals.{add-one}
 use native.Mathlib.Omega.{arith}
 use lib.Dec.{T, lit≤}
-use lib.Ieee.{Float, inf, binary64, ofBits, ofInt, add, sub, mul, lt, le, fits}
+use lib.Ieee.{Float, binary64, ofBits, ofInt, add, sub, mul, lt, le, fits}
 use lib.Ieee.Fits.{round-fits, add-fits}
 use lib.Ieee.Back.{round-whole}
 use lib.Ieee.Order.{le-of-values}
@@ -21,7 +21,7 @@ use Rattle.elementary.specs.Ln.{log10E}
 use Rattle.elementary.specs.LnGamma.{lnGammaOf}
 use Rattle.elementary.specs.ExpRange.{whole-at-least}
 use Rattle.elementary.specs.LnRange.{log10-e-size}
-use Rattle.elementary.specs.GammaRange.{gamma-size, above-zero, finite-below}
+use Rattle.elementary.specs.GammaRange.{gamma-size, above-zero}
 use Rattle.genotype_posterior.specs.Posterior.{whole, logBinomial, refPseudocount, snpPseudocount, lnPrior, unnormalized}
 
 -- ---- the ranges

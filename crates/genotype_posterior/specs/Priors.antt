@@ -7,7 +7,7 @@ use lib.Dec.{eqb}
 use borrow.Author.Tests.{eqb-true}
 use lib.ListN.{length, getD}
 use lib.Seq.{ext-getD}
-use lib.Ieee.{Float, binary64, ofBits, add, mul, nan}
+use lib.Ieee.{Float, binary64, add, mul, nan}
 use Rattle.elementary.specs.Ln.{log10E}
 use Rattle.lists.specs.Each.{each, length-each, getD-each, tabulate, length-tabulate, getD-tabulate}
 use Rattle.doubles.specs.Constants.{zeroF}

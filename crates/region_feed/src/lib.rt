@@ -13,7 +13,7 @@ use region_program::TABLE;
 ghost use mathlib.Core.Path.{_≡_};
 ghost use Prim.Native.Nat.{_<_};
 ghost use lib.ListN.{length};
-ghost use Rattle.region_feed.specs.Feed.{Closer, Ends};
+ghost use Rattle.region_feed.specs.Feed.{fedBy, Closer, Ends};
 
 // What comes of a word, or of the end of the input.
 pub enum Found {
@@ -31,7 +31,7 @@ pub struct Fed {
     pub found: Found,
 }
 
-// Takes the observations that stand at `at`, and acts once on the word behind them.
+// Takes the observations that stand at `at`, and acts on the word behind them.
 pub fn advance(
     s: RegionStream,
     words: &[u32],
@@ -65,7 +65,7 @@ pub fn advance(
     fed_to(s, at, Found::Nothing)
 }
 
-// Acts once on the word at `at`.
+// Acts on the word at `at`: where that ends a pile, once more.
 fn act_on(
     s: RegionStream,
     word: u32,
@@ -81,6 +81,20 @@ fn act_on(
 {
     let event = pileup_words::event_of(word);
     let step = region_stream::act(event, s, pile, kernel, cells, table, priors);
+    let Step::Again(t) = step else {
+        return fed_by(step, at);
+    };
+    fed_by(
+        region_stream::act(event, t, pile, kernel, cells, table, priors),
+        at,
+    )
+}
+
+// What a step at the word at `at` leaves.
+fn fed_by(step: Step, at: usize) -> Fed
+    requires { ⌜ at < 18446744073709551615 ⌝ }
+    ensures { λ r. ⌜ r ≡ fedBy step at ⌝ }
+{
     match step {
         Step::Next(t) => fed_to(t, at + 1, Found::Nothing),
         Step::Again(t) => fed_to(t, at, Found::Nothing),

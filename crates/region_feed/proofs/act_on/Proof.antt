@@ -1,9 +1,10 @@
--- `act_on` meets its contract: the next word is next, or fewer times are left to act on this one.
-use Rattle.region_program.proofs.Steps.{acts-few}
+-- `act_on` meets its contract: a step comes nearer, and so does the one behind the end of a pile.
+use Rattle.region_feed.specs.Feed.{fedBy}
+use Rattle.region_feed.proofs.Nearing.{ends-earlier, step-ends}
 use Rattle.region_program.specs.Stream.{StepEnds}
 use borrow.Author.Needs.{needs}
 use mathlib.Core.Path.{subst}
-use native.Mathlib.Omega.{arith}
+use native.Mathlib.Nat.{le-of-lt}
 use Rattle.region_feed.proofs.act_on.Statement.{statement}
 use Rattle.region_feed.proofs.act_on.Tie as tie
 
@@ -16,49 +17,31 @@ act-requires c κs = search needs
 enum-known-step : tie.Need-enum-known-step
 enum-known-step c = search needs
 
-add-fed-to : tie.Need-add-fed-to
-add-fed-to c = search needs
-
-fed-to-requires : tie.Need-fed-to-requires
-fed-to-requires c κs = search needs
-
-enum-known-step-2 : tie.Need-enum-known-step-2
-enum-known-step-2 c = search needs
-
-fed-to-requires-2 : tie.Need-fed-to-requires-2
-fed-to-requires-2 c κs = search needs
-
-enum-known-step-3 : tie.Need-enum-known-step-3
-enum-known-step-3 c = search needs
-
-fed-to-requires-3 : tie.Need-fed-to-requires-3
-fed-to-requires-3 c κs = search needs
-
-enum-known-step-4 : tie.Need-enum-known-step-4
-enum-known-step-4 c = search needs
-
-fed-to-requires-4 : tie.Need-fed-to-requires-4
-fed-to-requires-4 c κs = search needs
+fed-by-requires : tie.Need-fed-by-requires
+fed-by-requires c κs = search needs
 
 returns : tie.Need-returns
-returns c = simp (c .fed-to .ensures) (record { near = omega arith; nearer = omega (arith, acts-few (c .before .before .step .given .0 .0)) })
+returns c =
+    let call = c .before .before in
+    let a = call .before .before .before .before .before .args in
+    simp (c .fed-by .ensures) (step-ends (a .s) (call .act .result) (a .at) (call .act .ensures .ends))
+
+act-requires-2 : tie.Need-act-requires-2
+act-requires-2 c κs = search needs
+
+fed-by-requires-2 : tie.Need-fed-by-requires-2
+fed-by-requires-2 c κs = search needs
 
 returns-2 : tie.Need-returns-2
 returns-2 c =
-    let told = c .before .before in
-    let start = told .before .before .before .before .before .before .before in
-    let fewer = subst (StepEnds (start .args .s)) (told .step2 .given .1) (told .before .before .act .ensures .ends) in
-    simp (c .fed-to2 .ensures) (record { near = omega arith; nearer = omega (arith, fewer) })
-
-returns-3 : tie.Need-returns-3
-returns-3 c =
-    let told = c .before .before in
-    let start = told .before .before .before .before .before .before .before in
-    let fewer = subst (StepEnds (start .args .s)) (told .step3 .given .1) (told .before .before .act .ensures .ends) in
-    simp (c .fed-to3 .ensures) (record { near = omega arith; nearer = omega (arith, fewer) })
-
-returns-4 : tie.Need-returns-4
-returns-4 c = simp (c .fed-to4 .ensures) (record { near = omega arith; nearer = tt })
+    let again = c .before in
+    let told = again .before .before .before .before .before in
+    let call = told .before .before in
+    let a = call .before .before .before .before .before .args in
+    let fewer = subst (StepEnds (a .s)) (told .step .given .1) (call .act .ensures .ends) in
+    let t = told .step .given .0 .0 in
+    let r = again .act2 .result in
+    simp (c .fed-by2 .ensures) (ends-earlier (a .s) t (a .at) (fedBy r (a .at)) (le-of-lt fewer) (step-ends t r (a .at) (again .act2 .ensures .ends)))
 
 pub act-on-spec : {M : Type 1} → statement M
 act-on-spec =
@@ -67,15 +50,8 @@ act-on-spec =
     event-of-requires
     act-requires
     enum-known-step
-    add-fed-to
-    fed-to-requires
-    enum-known-step-2
-    fed-to-requires-2
-    enum-known-step-3
-    fed-to-requires-3
-    enum-known-step-4
-    fed-to-requires-4
+    fed-by-requires
     returns
-    returns-2
-    returns-3
-    returns-4)
+    act-requires-2
+    fed-by-requires-2
+    returns-2)

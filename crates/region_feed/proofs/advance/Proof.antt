@@ -1,21 +1,10 @@
 -- `advance` meets its contract: the words that were taken are passed, and acting on the one behind them comes nearer.
 use borrow.Author.Needs.{needs}
-use mathlib.Core.Path.{_≡_}
 use native.Mathlib.Omega.{arith}
-use Prim.Native.Nat.{ℕ, _+_, _≤_}
-use Rattle.region_program.specs.declared.RegionStream.{RegionStream}
-use Rattle.region_program.specs.Stream.{actsLeft}
-use Rattle.region_feed.specs.declared.Found.{Found}
-use Rattle.region_feed.specs.declared.Found.the-variants.{Nothing, Line, Refused}
-use Rattle.region_feed.specs.Feed.{Nearer}
+use Prim.Native.Nat.{_+_}
+use Rattle.region_feed.proofs.Nearing.{from-earlier}
 use Rattle.region_feed.proofs.advance.Statement.{statement}
 use Rattle.region_feed.proofs.advance.Tie as tie
-
--- what is near from a later word is near from an earlier one with as many times to act
-from-earlier : (f : Found) (s u t : RegionStream) (at later next : ℕ) → at ≤ later → actsLeft u ≡ actsLeft s → Nearer f u later t next → Nearer f s at t next
-from-earlier Nothing s u t at later next h e n = omega arith
-from-earlier (Line r) s u t at later next h e n = omega arith
-from-earlier (Refused y i) s u t at later next h e n = tt
 
 mul-observations : tie.Need-mul-observations
 mul-observations c = search needs
@@ -54,7 +43,7 @@ returns c =
     let a = seen .before .before .before .before .before .args in
     record {
       within = λ h. omega (arith, step .near, c .before .before .before .before .before .if2 .taken);
-      nearer = λ h. from-earlier (r .found) (a .s) (o .stream) (r .stream) (a .at) (a .at + o .taken) (r .at) (omega arith) (taken .same-acts) (step .nearer);
+      nearer = λ h. from-earlier (r .found) (a .s) (o .stream) (r .stream) (a .at) (a .at + o .taken) (r .at) (omega arith) (omega (arith, taken .same-acts)) (step .nearer);
     }
 
 fed-to-requires : tie.Need-fed-to-requires
