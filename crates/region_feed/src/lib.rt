@@ -11,7 +11,7 @@ use region_program::RegionStream;
 use region_program::Step;
 use region_program::TABLE;
 ghost use mathlib.Core.Path.{_≡_};
-ghost use Prim.Native.Nat.{_<_};
+ghost use Prim.Native.Nat.{_+_, _^_, _<_};
 ghost use lib.ListN.{length};
 ghost use Rattle.region_feed.specs.Feed.{fedBy, Closer, Ends};
 
@@ -76,7 +76,7 @@ fn act_on(
     table: &[f64; TABLE],
     priors: &[f64; PRIORS],
 ) -> Fed
-    requires { ⌜ at < 18446744073709551615 ⌝ }
+    requires { ⌜ at + 1 < 2 ^ 64 ⌝ }
     ensures { λ r. ⌜ Ends s at r ⌝ }
 {
     let event = pileup_words::event_of(word);
@@ -92,7 +92,7 @@ fn act_on(
 
 // What a step at the word at `at` leaves.
 fn fed_by(step: Step, at: usize) -> Fed
-    requires { ⌜ at < 18446744073709551615 ⌝ }
+    requires { ⌜ at + 1 < 2 ^ 64 ⌝ }
     ensures { λ r. ⌜ r ≡ fedBy step at ⌝ }
 {
     match step {

@@ -9,6 +9,9 @@ ghost use Prim.Native.Nat.{_<_};
 // The functions that an answer may be of, and 0 for any other.
 const FUNCTIONS: usize = 18;
 
+// The words of the longest answer.
+const ANSWER: usize = 16384;
+
 // Replays the files that the program's arguments name, and prints how many answers of each function agree.
 pub fn replay_arguments() {
     let mut asked = [0u64; FUNCTIONS];
@@ -40,7 +43,7 @@ fn replay_file(
         os::fail(&name[..n]);
         return;
     }
-    let mut words = [0u64; 16384];
+    let mut words = [0u64; ANSWER];
     replay_list(fd, &mut words, asked, agreed, table, priors);
     libc::close(fd);
 }

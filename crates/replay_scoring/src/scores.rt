@@ -10,7 +10,8 @@ use answer_list::word_at;
 use genome::GenomePosition;
 use genome::Ploidy;
 use genotype_likelihoods::HaplotypeCallerActivityScoringParams;
-ghost use Prim.Native.Nat.{_≤_};
+ghost use Prim.Native.Nat.{_+_, _≤_};
+ghost use Rattle.activity_scoring.specs.Score.{maxDepth};
 
 // contig, position, min base quality, ploidy, heterozygosity, deviation, deletion quality, alt multiplier, flow, depth,
 // k, words[k]; the refusal's number or 0, and where 0 probability, original probability and evidence. Word i of the pile
@@ -74,22 +75,25 @@ fn byte_at(words: &[u64], i: usize) -> u8 {
     (word_at(words, i) % 256) as u8
 }
 
+// Room for a pile: one word more than the deepest.
+const PILE: usize = 16385;
+
 // The depth in word i, cut to the room that there is: one more than the deepest pile.
 fn depth_at(words: &[u64], i: usize) -> usize
-    ensures { λ r. ⌜ r ≤ 16385 ⌝ }
+    ensures { λ r. ⌜ r ≤ maxDepth + 1 ⌝ }
 {
     let n = word_at(words, i);
-    if n <= 16385 {
+    if n <= PILE as u64 {
         return n as usize;
     }
-    16385
+    PILE
 }
 
 // The first n words of a pile that goes round the k words from word `at` on.
-fn pile_from(words: &[u64], at: usize, k: usize, n: usize) -> [u32; 16385]
-    requires { ⌜ n ≤ 16385 ⌝ }
+fn pile_from(words: &[u64], at: usize, k: usize, n: usize) -> [u32; PILE]
+    requires { ⌜ n ≤ maxDepth + 1 ⌝ }
 {
-    let mut pile = [0u32; 16385];
+    let mut pile = [0u32; PILE];
     let mut i = 0;
     let mut j = 0;
     while i < n {
