@@ -15,6 +15,13 @@ fedBy (Again t) at = record { stream = t; at = at; found = Nothing }
 fedBy (Line r t) at = record { stream = t; at = at; found = FoundLine r }
 fedBy (Refused y i t) at = record { stream = t; at = at; found = FoundRefused y i }
 
+-- what a step at the end of the input brings
+abbrev pub foundIn : Step → Found
+foundIn (Next t) = Nothing
+foundIn (Again t) = Nothing
+foundIn (Line r t) = FoundLine r
+foundIn (Refused y i t) = FoundRefused y i
+
 -- from the word at `at` on to the one at `next`, or with fewer times to act on it; a refusal ends the loop
 abbrev pub Nearer : Found → RegionStream → ℕ → RegionStream → ℕ → Type 0
 Nearer Nothing s at t next = actsLeft t + at * (mostActs + 1) < actsLeft s + next * (mostActs + 1)

@@ -13,7 +13,8 @@ use region_program::TABLE;
 ghost use mathlib.Core.Path.{_≡_};
 ghost use Prim.Native.Nat.{_+_, _^_, _<_};
 ghost use lib.ListN.{length};
-ghost use Rattle.region_feed.specs.Feed.{fedBy, Closer, Ends};
+ghost use Rattle.pileup_words.specs.Events.{lastEvent};
+ghost use Rattle.region_feed.specs.Feed.{fedBy, foundIn, Closer, Ends};
 
 // What comes of a word, or of the end of the input.
 pub enum Found {
@@ -127,14 +128,19 @@ pub fn finish(
     found_in(region_stream::act(event, t, pile, kernel, cells, table, priors))
 }
 
-fn last_event(remainder: bool) -> StreamEvent {
+fn last_event(remainder: bool) -> StreamEvent
+    ensures { λ e. ⌜ e ≡ lastEvent remainder ⌝ }
+{
     if remainder {
         return StreamEvent::Remainder;
     }
     StreamEvent::End
 }
 
-fn found_in(step: Step) -> Found {
+// What the caller finds in the last step.
+fn found_in(step: Step) -> Found
+    ensures { λ r. ⌜ r ≡ foundIn step ⌝ }
+{
     match step {
         Step::Next(_) => Found::Nothing,
         Step::Again(_) => Found::Nothing,
