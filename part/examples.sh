@@ -1,8 +1,9 @@
 #!/usr/bin/env bash
-# Builds the part, and the examples in C and in Rust over it, and runs both and the region program on the same words: all three print the same.
+# Builds the part, and the examples in C and in Rust over it, and runs both and the region program on the same words: all three print the same. Then runs checks.c.
 # examples.sh [WORDS ...]; without arguments the samples, a stream that is refused, and one that ends within a word.
 set -e
 cd "$(dirname "$0")/.."
+mkdir -p target
 rt staticlib region_picker > target/staticlib.log 2>&1 || { cat target/staticlib.log; exit 1; }
 rt check region > target/region.log 2>&1 || { cat target/region.log; exit 1; }
 gcc -std=c99 -O2 -Wall -Wextra -pedantic -o target/regions part/examples/c/regions.c target/staticlib/libregion_picker.a
@@ -21,3 +22,5 @@ for file in "${words[@]}"; do
     done
     echo "$file: $(wc -l < target/region.lines) lines, the same from region, C and Rust"
 done
+gcc -std=c99 -O2 -Wall -Wextra -pedantic -o target/checks part/checks.c target/staticlib/libregion_picker.a
+target/checks

@@ -3,12 +3,16 @@
  * Every function is proved to do what is said here, for whatever numbers it is handed (crates/region_picker; document 01 is docs/01-scope.md).
  *
  * Memory. The part allocates nothing, keeps nothing between calls and starts no threads. You own all of it: what a call writes is named below, and
- * nothing else is written. A pointer is to as many elements as the length behind it says, or to the number in its brackets; no two pointers of one
- * call may overlap, except two that are only read. A pointer is never null; of a length of 0 it is not followed.
+ * nothing else is written. A pointer is to as many elements as the length behind it says, or to the number in its brackets, and is aligned as its type
+ * asks; no two pointers of one call may overlap, except two that are only read. With a length of 0 a pointer is not followed and may be NULL; any other is
+ * not NULL. Calls on different memory may run on different threads at the same time.
+ *
+ * Doubles. The part assumes the floating-point environment that a program starts with: rounding to nearest, and no flushing of subnormal numbers to zero. A
+ * program that is linked with -Ofast or -ffast-math may start in another, in which subnormal cells are lost.
  *
  * Answers. 0 is success. 1 to 11 are document 01's refusals; a refused call writes nothing. docs/MAKERS.md says what to do about each:
  *   1 a setting, or a position given to scoring, outside its range     7 a position that is not on the contig
- *   2 a kernel buffer that is too short                                8 a probability that is not in 0.0 to 1.0
+ *   2 a kernel buffer or a table that is too short                     8 a probability that is not in 0.0 to 1.0
  *   3 a word that is no observation; an unknown CIGAR operation        9 a position that is not the one after the last
  *   4 a pile of more than 16,384 words                                10 too few cells
  *   5 a record that is broken, or a kernel that is not 2F + 1 long    11 a region size of 0
@@ -60,10 +64,10 @@ uint32_t region_picker_make(uint32_t profile[REGION_PICKER_PROFILE], uint32_t co
                             double active_prob_threshold, uint32_t max_filter_size, double sigma, bool adaptive_filter_size, double *full, size_t full_length,
                             double *narrow, size_t narrow_length);
 
-/* Copies the kernel that a making left to the front of `kernel`, and answers its length, 2F + 1. Where `kernel` is shorter than that, nothing is written and
- * the answer is 0. The two buffers are free after that. */
-size_t region_picker_kernel(double *kernel, size_t kernel_length, uint32_t filter_size, uint32_t max_filter_size, const double *full, size_t full_length,
-                            const double *narrow, size_t narrow_length);
+/* Copies the kernel that a making left, 2F + 1 doubles, to the front of `kernel`, which is what an add is handed, with the length 2F + 1; F is
+ * profile[REGION_PICKER_FILTER_SIZE]. Refuses 2 where `kernel`, `full` or `narrow` is shorter than that. After a 0 the two buffers are free. */
+uint32_t region_picker_kernel(double *kernel, size_t kernel_length, uint32_t filter_size, uint32_t max_filter_size, const double *full, size_t full_length,
+                              const double *narrow, size_t narrow_length);
 
 /* Adds the locus after the last, or any locus to an empty profile. active_prob 0.0 to 1.0; with has_clips, clip_bases is the count of clipped bases that the
  * activity is spread by. Writes the profile and the cells. Refuses 5, 6, 7, 8, 9, 10. */
@@ -75,20 +79,25 @@ uint32_t region_picker_add(uint32_t profile[REGION_PICKER_PROFILE], double activ
 uint32_t region_picker_pop(uint32_t profile[REGION_PICKER_PROFILE], double active_prob_threshold, uint32_t assembly_region_extension, uint32_t min_region_size,
                            uint32_t max_region_size, bool forced, double *cells, size_t cells_length, uint32_t region[REGION_PICKER_REGION]);
 
-/* How many doubles the table of a ploidy has: 512 * (ploidy / 4 * 4 + 4) + 1, so 2,049 for ploidy 1 to 3. */
+/* How many doubles the table of a ploidy has: 512 * (ploidy / 4 * 4 + 4) + 3, so 2,051 for ploidy 1 to 3. */
 size_t region_picker_table_length(uint8_t sample_ploidy);
 
-/* Fills the tables that scoring reads: `table`, of region_picker_table_length doubles, and `priors`, of sample_ploidy + 1. Once, and again whenever a setting of
- * scoring changes; docs/SPEED.md has its time. A table that is too short is left as it is. The ranges are those of region_picker_score. */
-void region_picker_fill_tables(double *table, size_t table_length, double *priors, size_t priors_length, uint8_t min_base_quality_score, uint8_t sample_ploidy,
-                               double snp_heterozygosity, double heterozygosity_standard_deviation, uint8_t ref_model_deletion_qual,
-                               double active_region_alt_multiplier, bool flow_based_reference_model);
+/* How many doubles the list of priors of a ploidy has: ploidy + 4. */
+size_t region_picker_priors_length(uint8_t sample_ploidy);
+
+/* Fills the front of the tables that scoring reads: `table`, of region_picker_table_length doubles, and `priors`, of region_picker_priors_length. Once, and again
+ * whenever a setting of scoring changes; docs/SPEED.md has its time. The ranges are those of region_picker_score. Refuses 1 for a setting outside its range, then
+ * 2 for a table or priors that are too short. */
+uint32_t region_picker_fill_tables(double *table, size_t table_length, double *priors, size_t priors_length, uint8_t min_base_quality_score,
+                                   uint8_t sample_ploidy, double snp_heterozygosity, double heterozygosity_standard_deviation,
+                                   uint8_t ref_model_deletion_qual, double active_region_alt_multiplier, bool flow_based_reference_model);
 
 /* Scores the pile of a position: observation words, as README.md has them. Settings, with the usual choice: min_base_quality_score 1 to 254 (10), sample_ploidy 1
  * to 100 (2), snp_heterozygosity 0.000001 to 0.5 (0.001), heterozygosity_standard_deviation 0.0001 to 1 (0.01), ref_model_deletion_qual 1 to 254 (30),
- * active_region_alt_multiplier 1/1024 to 1,024 (1), flow_based_reference_model (false). The tables are those that region_picker_fill_tables filled for the same
- * settings; tables of another length are not looked at, and the score is then worked out without them, which takes longer and gives the same bits. Writes to
- * `activity` the probability and the original probability, and to `evidence` 1 and the clip count, or 0 and 0: what an add takes. Refuses 1, 4, 3. */
+ * active_region_alt_multiplier 1/1024 to 1,024 (1), flow_based_reference_model (false). `table` and `priors` are what region_picker_fill_tables filled, with
+ * just the lengths that the two functions above answer. Each carries the settings that it depends on; one that was filled for others, is of another length, or
+ * holds zeros because nothing was filled, is not looked at: the score has the same bits, and takes longer to work out. Writes to `activity` the probability and
+ * the original probability, and to `evidence` 1 and the clip count, or 0 and 0: what an add takes. Refuses 1, 4, 3. */
 uint32_t region_picker_score(uint32_t position, const uint32_t *pile, size_t pile_length, const double *table, size_t table_length, const double *priors,
                              size_t priors_length, uint8_t min_base_quality_score, uint8_t sample_ploidy, double snp_heterozygosity,
                              double heterozygosity_standard_deviation, uint8_t ref_model_deletion_qual, double active_region_alt_multiplier,

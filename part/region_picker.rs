@@ -24,7 +24,7 @@ extern "C" {
         full_length: usize,
         narrow: *const f64,
         narrow_length: usize,
-    ) -> usize;
+    ) -> u32;
     pub fn region_picker_add(
         profile: *mut u32,
         threshold: f64,
@@ -51,6 +51,7 @@ extern "C" {
         region: *mut u32,
     ) -> u32;
     pub fn region_picker_table_length(ploidy: u8) -> usize;
+    pub fn region_picker_priors_length(ploidy: u8) -> usize;
     pub fn region_picker_fill_tables(
         table: *mut f64,
         table_length: usize,
@@ -63,7 +64,7 @@ extern "C" {
         deletion_qual: u8,
         alt_multiplier: f64,
         flow: bool,
-    );
+    ) -> u32;
     pub fn region_picker_score(
         position: u32,
         pile: *const u32,

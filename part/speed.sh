@@ -2,6 +2,7 @@
 # Times the original and the part in one run, and prints the table of docs/SPEED.md. With `count`, counts the instructions of two rows by callgrind instead.
 set -e
 cd "$(dirname "$0")/.."
+mkdir -p target
 rt staticlib region_picker > target/staticlib.log 2>&1 || { cat target/staticlib.log; exit 1; }
 rt check region > target/region.log 2>&1 || { cat target/region.log; exit 1; }
 cargo build --quiet --release --offline --manifest-path part/speed/Cargo.toml

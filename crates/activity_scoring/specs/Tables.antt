@@ -1,24 +1,34 @@
--- The score by a table of contributions and a list of priors that are lent; by those that were filled for the settings it is the plain one.
-use mathlib.Core.Path.{_≡_, refl, ap}
-use mathlib.Core.Bool.{Bool, true, false}
-use mathlib.Core.List.{List, []}
+-- The score by a table of contributions and a list of priors that are lent. Each carries the settings that it was filled for, and is read only where they are the
+-- call's: so by whatever was filled, for whatever settings, the score is the plain one.
+use mathlib.Core.Path.{_≡_, refl, ap, _∙_}
+use mathlib.Core.Bool.{Bool, true, false, cond, not, _||_}
+use mathlib.Core.List.{List}
 use Prim.Native.Nat.{ℕ, _+_, _≤_}
 use native.Mathlib.Omega.{arith}
-use lib.ListN.{getD}
+use lib.Dec.{ltb}
+use lib.ListN.{length, getD, replicate}
 use lib.Ieee.{Float, binary64, sub, nan}
-use borrow.Author.Tests.{leb-true}
+use borrow.Author.Tests.{leb-true, ltb-false}
 use Rattle.lists.specs.Tests.{and-left, and-right}
+use Rattle.doubles.specs.Constants.{zeroF}
 use Rattle.genome.specs.declared.GenomePosition.{GenomePosition}
-use Rattle.genome.specs.Refusals.{Outcome}
+use Rattle.genome.specs.Refusals.{Outcome, numberOf, settingRefusal, bufferRefusal}
 use Rattle.genotype_likelihoods.specs.declared.HaplotypeCallerActivityScoringParams.{HaplotypeCallerActivityScoringParams}
 use Rattle.genotype_likelihoods.specs.Settings.{settingsInRange}
-use Rattle.contribution_table.specs.Table.{filled, likelihoodsBy}
-use Rattle.contribution_table.specs.Filled.{likelihoods-by-filled, likelihoods-by-none}
+use Rattle.genotype_likelihoods.specs.Likelihoods.{likelihoods}
+use Rattle.genotype_likelihoods.specs.Lengths.{length-likelihoods}
+use Rattle.contribution_table.specs.Table.{ploidyOf, tableLength, filled, likelihoodsBy}
+use Rattle.contribution_table.specs.Filled.{Holds, filled-holds, likelihoods-by-filled, likelihoods-by-zeros}
 use Rattle.genotype_posterior.specs.Phred.{plRoundTrip}
-use Rattle.genotype_posterior.specs.Priors.{log10Priors, posteriorBy, posteriorWrittenBy, posterior-filled, posterior-none}
+use Rattle.genotype_posterior.specs.Posterior.{posterior}
+use Rattle.genotype_posterior.specs.Probability.{rounded-length}
+use Rattle.genotype_posterior.specs.Priors.{priorsLength, log10Priors, posteriorBy, posteriorWrittenBy, HoldsPriors, filled-priors, posterior-filled, posterior-zeros}
 use Rattle.log10_sums.specs.Sums.{maxElementIndex}
 use Rattle.activity_profile.specs.declared.ActivityProfileState.{ActivityProfileState}
+use Rattle.activity_profile.specs.Verdict.{Verdict, refusal, granted}
 use Rattle.activity_scoring.specs.declared.Activity.{Activity}
+use Rattle.activity_scoring.specs.declared.Filling.{Filling}
+use Rattle.activity_scoring.specs.declared.Filling.the-variants.{Filled, Refused}
 use Rattle.activity_scoring.specs.Score.{inRange, activityOf, stateWith, scoreWith, scoreOf}
 
 -- of rounded likelihoods: the posterior, and the largest less that of the reference genotype
@@ -45,37 +55,115 @@ stateBy table priors contig p words s = stateWith (activityBy table priors words
 abbrev pub scoreBy : List Float → List Float → ℕ → GenomePosition → List ℕ → HaplotypeCallerActivityScoringParams → Outcome ActivityProfileState
 scoreBy table priors contig p words s = scoreWith (stateBy table priors contig p words s) p words s
 
--- ---- tables that were filled for the settings, whatever slices they were filled into. Assumes nothing.
+-- ---- filling both
 
 -- the priors of the settings
 abbrev pub priorsFilled : HaplotypeCallerActivityScoringParams → List Float → List Float
-priorsFilled s l = log10Priors (s .«snp_heterozygosity») (s .«heterozygosity_standard_deviation») l
+priorsFilled s l = log10Priors (ploidyOf s) (s .«snp_heterozygosity») (s .«heterozygosity_standard_deviation») l
 
-activity-filled : (s : HaplotypeCallerActivityScoringParams) (l k : List Float) (words : List ℕ) → s .«ref_model_deletion_qual» ≤ 255
-    → activityBy (filled s l) (priorsFilled s k) words s ≡ activityOf words s
-unfolding activityBy activityOf
-activity-filled s l k words h = rw (likelihoods-by-filled s l (s .«sample_ploidy» .0 + 1) words h, posterior-filled)
+-- slices of n and m numbers are too short
+abbrev pub tooShort : HaplotypeCallerActivityScoringParams → ℕ → ℕ → Bool
+tooShort s n m = ltb n (tableLength (ploidyOf s)) || ltb m (priorsLength (ploidyOf s))
 
-activity-none : (s : HaplotypeCallerActivityScoringParams) (words : List ℕ) → activityBy [] [] words s ≡ activityOf words s
-unfolding activityBy activityOf
-activity-none s words = rw (likelihoods-by-none s (s .«sample_ploidy» .0 + 1) words, posterior-none)
+-- 1 for a setting outside its range, then 2 for a slice that is too short
+unfoldable pub fillVerdict : HaplotypeCallerActivityScoringParams → ℕ → ℕ → Verdict
+fillVerdict s n m = cond (not (settingsInRange s)) (refusal settingRefusal) (cond (tooShort s n m) (refusal bufferRefusal) granted)
 
--- in range, the deletion quality is a byte
-deletion-byte : (p : GenomePosition) (s : HaplotypeCallerActivityScoringParams) → inRange p s ≡ true → s .«ref_model_deletion_qual» ≤ 255
+-- an answer of the code in these terms
+abbrev pub fillingOf : Filling → Verdict
+fillingOf Filled = granted
+fillingOf (Refused r) = refusal (numberOf r)
+
+-- a refusal writes nothing
+abbrev pub whereGranted : Verdict → List Float → List Float → List Float
+whereGranted (refusal n) old new = old
+whereGranted granted old new = new
+
+abbrev pub tableAfter : HaplotypeCallerActivityScoringParams → List Float → List Float → List Float
+tableAfter s table priors = whereGranted (fillVerdict s (length table) (length priors)) table (filled s table)
+
+abbrev pub priorsAfter : HaplotypeCallerActivityScoringParams → List Float → List Float → List Float
+priorsAfter s table priors = whereGranted (fillVerdict s (length table) (length priors)) priors (priorsFilled s priors)
+
+-- ---- by what was filled. Assumes nothing.
+
+-- in range, a quality and a ploidy are bytes
+deletion-byte : (s : HaplotypeCallerActivityScoringParams) → settingsInRange s ≡ true → s .«ref_model_deletion_qual» ≤ 255
 unfolding settingsInRange
-deletion-byte p s e =
+deletion-byte s e =
     let least : s .«ref_model_deletion_qual» ≤ 254 = search (leb-true, and-left, and-right) depth 12 in
     omega arith
 
-pub score-filled : (s : HaplotypeCallerActivityScoringParams) (l k : List Float) (contig : ℕ) (p : GenomePosition) (words : List ℕ)
-    → scoreBy (filled s l) (priorsFilled s k) contig p words s ≡ scoreOf contig p words s
+ploidy-small : (s : HaplotypeCallerActivityScoringParams) → settingsInRange s ≡ true → ploidyOf s ≤ 100
+unfolding settingsInRange
+ploidy-small s e = search (leb-true, and-left, and-right) depth 12
+
+-- what has to be shown of a table and of a list of priors
+abbrev PlainLikelihoods : HaplotypeCallerActivityScoringParams → List Float → Type 0
+PlainLikelihoods s table = (n : ℕ) (words : List ℕ) → likelihoodsBy table s n words ≡ likelihoods s n words
+
+abbrev PlainPosterior : HaplotypeCallerActivityScoringParams → List Float → Type 0
+PlainPosterior s priors = (gl : List Float) → length gl ≡ ploidyOf s + 1
+    → posteriorBy priors (s .«snp_heterozygosity») (s .«heterozygosity_standard_deviation») gl ≡ posterior (s .«snp_heterozygosity») (s .«heterozygosity_standard_deviation») gl
+
+activity-plain : (s : HaplotypeCallerActivityScoringParams) (table priors : List Float) (words : List ℕ) → PlainLikelihoods s table → PlainPosterior s priors
+    → activityBy table priors words s ≡ activityOf words s
+unfolding activityBy activityOf
+activity-plain s table priors words f g =
+    rw (f (ploidyOf s + 1) words, g (plRoundTrip (likelihoods s (ploidyOf s + 1) words)) (rounded-length (likelihoods s (ploidyOf s + 1) words) ∙ length-likelihoods s (ploidyOf s + 1) words))
+
+-- a score that is refused looks at neither
+score-plain : (s : HaplotypeCallerActivityScoringParams) (table priors : List Float) (contig : ℕ) (p : GenomePosition) (words : List ℕ)
+    → (settingsInRange s ≡ true → PlainLikelihoods s table × PlainPosterior s priors) → scoreBy table priors contig p words s ≡ scoreOf contig p words s
 unfolding scoreWith
-score-filled s l k contig p words = go (inRange p s) refl
+score-plain s table priors contig p words f = go (inRange p s) refl
   where
-    go : (b : Bool) → inRange p s ≡ b → scoreBy (filled s l) (priorsFilled s k) contig p words s ≡ scoreOf contig p words s
-    go true e = ap (λ (a : Activity). scoreWith (stateWith a contig p words s) p words s) (activity-filled s l k words (deletion-byte p s e))
+    go : (b : Bool) → inRange p s ≡ b → scoreBy table priors contig p words s ≡ scoreOf contig p words s
+    go true e =
+        let plain = f (and-left (settingsInRange s) _ e) in
+        ap (λ (a : Activity). scoreWith (stateWith a contig p words s) p words s) (activity-plain s table priors words (plain .0) (plain .1))
     go false e = rw e
 
--- and without tables too
-pub score-none : (s : HaplotypeCallerActivityScoringParams) (contig : ℕ) (p : GenomePosition) (words : List ℕ) → scoreBy [] [] contig p words s ≡ scoreOf contig p words s
-score-none s contig p words = ap (λ (a : Activity). scoreWith (stateWith a contig p words s) p words s) (activity-none s words)
+-- The table was filled for t and the priors for u, into slices of any length; lent is any part of those from the front. The call's settings are s.
+pub score-by-filled : (s t u : HaplotypeCallerActivityScoringParams) (table priors : List Float) → Holds t table → ploidyOf t ≤ 255
+    → HoldsPriors (ploidyOf u) (u .«snp_heterozygosity») (u .«heterozygosity_standard_deviation») priors → ploidyOf u ≤ 255
+    → (contig : ℕ) (p : GenomePosition) (words : List ℕ) → scoreBy table priors contig p words s ≡ scoreOf contig p words s
+score-by-filled s t u table priors held few held-priors few-priors contig p words =
+    score-plain s table priors contig p words
+    (λ e.
+    let small = ploidy-small s e in (
+      λ n ws. likelihoods-by-filled s t table n ws held few (omega (arith, small)) (deletion-byte s e),
+      λ gl l. posterior-filled (ploidyOf u) (u .«snp_heterozygosity») (u .«heterozygosity_standard_deviation») (s .«snp_heterozygosity») (s .«heterozygosity_standard_deviation») priors gl
+          held-priors few-priors (omega (arith, small, l)),
+    ))
+
+-- what a filling that is granted says of its settings and of its slices
+granted-is : (t : HaplotypeCallerActivityScoringParams) (n m : ℕ) → fillVerdict t n m ≡ granted
+    → (settingsInRange t ≡ true) × (tableLength (ploidyOf t) ≤ n) × (priorsLength (ploidyOf t) ≤ m)
+unfolding fillVerdict
+granted-is t n m = go (settingsInRange t) (ltb n (tableLength (ploidyOf t))) (ltb m (priorsLength (ploidyOf t))) (ltb-false n (tableLength (ploidyOf t))) (ltb-false m (priorsLength (ploidyOf t)))
+  where
+    go : (a b c : Bool) → (b ≡ false → tableLength (ploidyOf t) ≤ n) → (c ≡ false → priorsLength (ploidyOf t) ≤ m)
+        → cond (not a) (refusal settingRefusal) (cond (b || c) (refusal bufferRefusal) granted) ≡ granted
+        → (a ≡ true) × (tableLength (ploidyOf t) ≤ n) × (priorsLength (ploidyOf t) ≤ m)
+    go true false false f g e = (refl, f refl, g refl)
+    go true false true f g e = absurd (let z : _≡_ {A = ℕ} 0 1 = cc in omega arith)
+    go true true c f g e = absurd (let z : _≡_ {A = ℕ} 0 1 = cc in omega arith)
+    go false b c f g e = absurd (let z : _≡_ {A = ℕ} 0 1 = cc in omega arith)
+
+-- Every filling that is granted, for whatever settings t, and every call, for whatever settings s.
+pub score-filled : (s t : HaplotypeCallerActivityScoringParams) (l k : List Float) → fillVerdict t (length l) (length k) ≡ granted
+    → (contig : ℕ) (p : GenomePosition) (words : List ℕ) → scoreBy (filled t l) (priorsFilled t k) contig p words s ≡ scoreOf contig p words s
+score-filled s t l k e contig p words =
+    let g = granted-is t (length l) (length k) e in
+    let small = ploidy-small t (g .0) in
+    let byte : ploidyOf t ≤ 255 = omega (arith, small) in
+    score-by-filled s t t (filled t l) (priorsFilled t k) (filled-holds t l (g .1)) byte
+    (filled-priors (ploidyOf t) (t .«snp_heterozygosity») (t .«heterozygosity_standard_deviation») k (g .2)) byte contig p words
+
+-- and slices of zeros that were never filled, of any length; none at all are two of length 0
+pub score-zeros : (s : HaplotypeCallerActivityScoringParams) (n m contig : ℕ) (p : GenomePosition) (words : List ℕ)
+    → scoreBy (replicate n zeroF) (replicate m zeroF) contig p words s ≡ scoreOf contig p words s
+score-zeros s n m contig p words =
+    score-plain s (replicate n zeroF) (replicate m zeroF) contig p words
+    (λ e. (λ k ws. likelihoods-by-zeros s n k ws, λ gl l. posterior-zeros m (s .«snp_heterozygosity») (s .«heterozygosity_standard_deviation») gl))

@@ -2,16 +2,25 @@
 // Rust's activity_scoring.rs and minimal_genotyping.rs. No public function has a `requires`.
 mod mean;
 mod score;
+mod tables;
 
 use activity_profile::ActivityProfileState;
 use genome::Refusal;
 pub use mean::hq_soft_clip_running_mean_rcm_path;
 pub use score::haplotype_caller_activity_profile_state_by_tables;
 pub use score::haplotype_caller_activity_profile_state_single_sample;
+pub use tables::fill_tables;
 
 // What scoring answers.
 pub enum Scored {
     Score(ActivityProfileState),
+    Refused(Refusal),
+}
+
+// What filling the tables answers.
+pub enum Filling {
+    Filled,
+    // A setting outside its range, or a slice that is too short.
     Refused(Refusal),
 }
 

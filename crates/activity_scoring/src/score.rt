@@ -35,9 +35,8 @@ pub fn haplotype_caller_activity_profile_state_single_sample(
     haplotype_caller_activity_profile_state_by_tables(contig, pos, pile, params, none, none)
 }
 
-// The same score from tables that are filled once for the settings: by `contribution_table::fill_contribution_table`,
-// and by `genotype_posterior::fill_log10_priors` over ploidy + 1 numbers. A table that is too short, and priors of
-// another number, are not looked at.
+// The same score from tables that `fill_tables` filled once. Each carries the settings that it was filled for; one that
+// carries others than these, or is of another length, is not looked at.
 pub fn haplotype_caller_activity_profile_state_by_tables(
     contig: u32,
     pos: GenomePosition,

@@ -6,7 +6,7 @@ use lib.Dec.{leb, ltb, eqb}
 use lib.ListN.{length, drop}
 use lib.Ieee.{Float, binary64, ofBits}
 use Rattle.numbers.specs.Ranges.{between, within}
-use Rattle.genome.specs.Refusals.{Outcome, refused, answered, numberOf, settingRefusal, kernelBufferRefusal}
+use Rattle.genome.specs.Refusals.{Outcome, refused, answered, numberOf, settingRefusal, bufferRefusal}
 use Rattle.genome.specs.Ranges.{isProbability}
 use Rattle.band_pass_kernel.specs.declared.BandPassActivityProfileParams.{BandPassActivityProfileParams}
 use Rattle.band_pass_kernel.specs.declared.ResolvedFilter.{ResolvedFilter}
@@ -56,7 +56,7 @@ filterSize s =
 
 -- the refusals in their order, and the filter size
 unfoldable pub resolution : BandPassActivityProfileParams → ℕ → ℕ → Outcome ℕ
-resolution s n m = cond (not (inRange s)) (refused settingRefusal) (cond (not (hasRoom s n m)) (refused kernelBufferRefusal) (answered (filterSize s)))
+resolution s n m = cond (not (inRange s)) (refused settingRefusal) (cond (not (hasRoom s n m)) (refused bufferRefusal) (answered (filterSize s)))
 
 -- an answer of the code in these terms
 abbrev pub resolutionOf : ResolvedFilter → Outcome ℕ

@@ -38,7 +38,7 @@ impl BandPassActivityProfileParams {
             return ResolvedFilter::Refused(Refusal::Setting);
         }
         if !self.has_room(full.len(), narrow.len()) {
-            return ResolvedFilter::Refused(Refusal::KernelBuffer);
+            return ResolvedFilter::Refused(Refusal::Buffer);
         }
         let filter_size = self.fill(full, narrow);
         ResolvedFilter::FilterSize(filter_size)

@@ -1,20 +1,21 @@
 -- Places in the rows of the table, and the sums of a whole slice. Assumes nothing.
-use mathlib.Core.Path.{_≡_, _∙_}
-use mathlib.Core.Bool.{true}
+use mathlib.Core.Path.{_≡_, refl, _∙_}
+use mathlib.Core.Bool.{Bool, true, false, _&&_}
 use mathlib.Core.List.{List}
 use Prim.Native.Nat.{ℕ, zero, suc, _+_, _*_, _/_, _<_, _≤_}
 use native.Mathlib.Nat.{div-lt-iff-lt-mul, mul-le-mul-right}
 use native.Mathlib.Omega.{arith}
-use lib.Dec.{leb}
+use lib.Dec.{leb, eqb}
+use lib.ListN.{length}
 use lib.Ieee.{Float}
-use borrow.Author.Tests.{leb-true}
+use borrow.Author.Tests.{leb-true, eqb-true, ne-eqb}
 use Rattle.lists.specs.Each.{each, tabulate}
 use Rattle.lists.specs.Folds.{each-tabulate}
 use Rattle.lists.specs.Loops.{foldl}
 use Rattle.lists.specs.Tests.{and-left, and-right}
 use Rattle.genotype_likelihoods.specs.declared.HaplotypeCallerActivityScoringParams.{HaplotypeCallerActivityScoringParams}
 use Rattle.genotype_likelihoods.specs.Likelihoods.{counted, less}
-use Rattle.contribution_table.specs.Table.{ploidyOf, rowLength, tableLength, fits, sumAt, shareOf, likelihoodAt}
+use Rattle.contribution_table.specs.Table.{ploidyOf, rowLength, tableLength, serves, sumAt, shareOf, likelihoodAt}
 
 -- a place before the end of the rows is in one of them
 pub row-below : (j n : ℕ) → 1 ≤ n → j < 512 * n → j / n < 512
@@ -28,11 +29,22 @@ in-row r n i h k = omega (arith, mul-le-mul-right n h)
 pub row-small : (r n : ℕ) → r ≤ 511 → n ≤ 256 → r * n ≤ 511 * 256
 row-small r n h k = omega (arith, mul-le-mul-right n h)
 
-pub fits-row : (cells : ℕ) (s : HaplotypeCallerActivityScoringParams) (n : ℕ) → fits cells s n ≡ true → n ≤ rowLength (ploidyOf s)
-fits-row cells s n e = leb-true _ _ (and-left (leb n (rowLength (ploidyOf s))) _ e)
+pub serves-row : (table : List Float) (s : HaplotypeCallerActivityScoringParams) (n : ℕ) → serves table s n ≡ true → n ≤ rowLength (ploidyOf s)
+unfolding serves
+serves-row table s n e = leb-true _ _ (and-left (leb n (rowLength (ploidyOf s))) _ e)
 
-pub fits-table : (cells : ℕ) (s : HaplotypeCallerActivityScoringParams) (n : ℕ) → fits cells s n ≡ true → tableLength (ploidyOf s) ≤ cells
-fits-table cells s n e = leb-true _ _ (and-right (leb n (rowLength (ploidyOf s))) _ e)
+pub serves-length : (table : List Float) (s : HaplotypeCallerActivityScoringParams) (n : ℕ) → serves table s n ≡ true → length table ≡ tableLength (ploidyOf s)
+unfolding serves
+serves-length table s n e = eqb-true _ _ (and-left (eqb (length table) (tableLength (ploidyOf s))) _ (and-right (leb n (rowLength (ploidyOf s))) _ e))
+
+-- a table of another length does not serve
+pub other-length : (table : List Float) (s : HaplotypeCallerActivityScoringParams) (n : ℕ) → (length table ≡ tableLength (ploidyOf s) → ⊥) → serves table s n ≡ false
+unfolding serves
+other-length table s n h = rw (ne-eqb (length table) (tableLength (ploidyOf s)) h) (and-no (leb n (rowLength (ploidyOf s))))
+  where
+    and-no : (b : Bool) → (b && false) ≡ false
+    and-no true = refl
+    and-no false = refl
 
 -- the sums less the share of k words, k being the words counted where there is a genotype
 pub sums-less-share : (table : List Float) (s : HaplotypeCallerActivityScoringParams) (words : List ℕ) (n k : ℕ) → (0 < n → k ≡ foldl (counted s) 0 words)

@@ -1,28 +1,30 @@
--- By a table that was filled for the settings the likelihoods are the plain ones, bit for bit: for every slice that the table was filled into, long
--- enough or not, every number of genotypes and every pile. Assumes nothing.
+-- By a table that was filled, for whatever settings, the likelihoods are the plain ones of the call's settings, bit for bit: for every slice that the table was
+-- filled into, every part of it from the front, every number of genotypes and every pile. A table of other settings is not read. Assumes nothing.
 use mathlib.Core.Path.{_≡_, refl, sym, ap, _∙_}
-use mathlib.Core.Bool.{Bool, true, false, cond}
-use mathlib.Core.List.{List, []}
-use Prim.Native.Nat.{ℕ, _+_, _*_, _/_, _%_, _<_, _≤_}
+use mathlib.Core.Bool.{Bool, true, false, cond, _&&_}
+use mathlib.Core.List.{List}
+use Prim.Native.Nat.{ℕ, zero, suc, _+_, _-_, _*_, _/_, _%_, _<_, _≤_}
 use native.Mathlib.Nat.{mul-le-mul-right, mul-add-div-right, mul-add-mod-self-right, div-eq-of-lt, mod-eq-of-lt, add-zero}
 use native.Mathlib.Omega.{arith}
 use lib.IntN.{pos}
-use lib.Dec.{leb, ltb}
-use borrow.Author.Tests.{lt-ltb, le-ltb, leb-true}
-use lib.ListN.{length, getD, replicate}
-use lib.Seq.{ext-getD}
+use lib.Dec.{leb, eqb}
+use borrow.Author.Tests.{lt-ltb, le-ltb, leb-true, eqb-true, ne-eqb}
+use lib.ListN.{length, getD, drop, replicate}
+use lib.Seq.{ext-getD, getD-drop}
 use lib.Ieee.{Float, binary64, ofInt, add, mul, nan}
 use Rattle.lists.specs.Loops.{foldl}
 use Rattle.lists.specs.Each.{each, getD-each, length-each, tabulate, length-tabulate, getD-tabulate}
 use Rattle.lists.specs.Folds.{foldl-each, foldl-same, each-replicate, each-tabulate}
 use Rattle.lists.specs.Tests.{and-left, and-right}
 use Rattle.doubles.specs.Constants.{zeroF}
+use Rattle.numbers.specs.Same.{samePositive, same-is, none-is-zero, whole-is}
 use Rattle.genotype_likelihoods.specs.declared.HaplotypeCallerActivityScoringParams.{HaplotypeCallerActivityScoringParams}
 use Rattle.pileup_words.specs.Words.{observation}
 use Rattle.genotype_likelihoods.specs.Observation.{effectiveQual, qualOf, skipped}
 use Rattle.genotype_likelihoods.specs.Contribution.{contributionOf, log10Whole}
 use Rattle.genotype_likelihoods.specs.Likelihoods.{weight, gained, taken, counted, less, likelihoods}
-use Rattle.contribution_table.specs.Table.{ploidyOf, rows, rowLength, tableLength, cellOf, cellAt, tabled, filled, rowOf, takenAt, likelihoodAt, fits, likelihoodsBy}
+use Rattle.contribution_table.specs.Table.{ploidyOf, multiplierOf, ploidyNumber, heading, rows, rowLength, rowsLength, tableLength, cellOf, entryAt, cellAt}
+use Rattle.contribution_table.specs.Table.{tabled, filled, rowOf, takenAt, likelihoodAt, carries, isFor, serves, likelihoodsBy}
 
 -- ---- the plain likelihoods, genotype by genotype
 
@@ -61,30 +63,72 @@ plain-likelihoods s n words =
     ∙ each-replicate (λ i x. foldl (plainAt s i) x words) n zeroF)
     ∙ each-tabulate (less (plainShare s words)) (λ i. foldl (plainAt s i) zeroF words) n
 
--- ---- what a filled table holds
+-- ---- what a table that was filled holds
 
-module _ (s : HaplotypeCallerActivityScoringParams) (l : List Float) (long : tableLength (ploidyOf s) ≤ length l) where
-  abbrev table : List Float
-  table = filled s l
+-- the numbers of the table of t, as far as the slice goes
+abbrev pub Holds : HaplotypeCallerActivityScoringParams → List Float → Type 0
+Holds t table = (j : ℕ) → j < length table → j < tableLength (ploidyOf t) → getD table j nan ≡ cellAt t j
 
-  holds : (j : ℕ) → j < tableLength (ploidyOf s) → getD table j nan ≡ cellAt s j
-  unfolding filled
-  holds j h = rw (le-ltb (length l) (tableLength (ploidyOf s)) long) (getD-each (tabled s) l j nan (omega arith) ∙ rw (lt-ltb j (tableLength (ploidyOf s)) h))
+pub filled-holds : (t : HaplotypeCallerActivityScoringParams) (l : List Float) → tableLength (ploidyOf t) ≤ length l → Holds t (filled t l)
+unfolding filled
+filled-holds t l long = rw (le-ltb (length l) (tableLength (ploidyOf t)) long)
+    (λ j h k. getD-each (tabled t) l j nan (omega (arith, long)) ∙ rw (lt-ltb j (tableLength (ploidyOf t)) k))
 
-  -- entry i of row r
-  entry : (r i : ℕ) → r < 512 → i < rowLength (ploidyOf s) → getD table (r * rowLength (ploidyOf s) + i) nan ≡ cellOf s r i
+-- of two settings with one ploidy and one multiplier the rows are the same
+entry-same : (s t : HaplotypeCallerActivityScoringParams) → ploidyOf t ≡ ploidyOf s → multiplierOf t ≡ multiplierOf s → (j : ℕ) → entryAt t j ≡ entryAt s j
+unfolding entryAt
+entry-same s t p m j = rw (p, m)
+
+-- the rows of s
+abbrev Rows : HaplotypeCallerActivityScoringParams → List Float → Type 0
+Rows s rs = (j : ℕ) → j < rowsLength (ploidyOf s) → getD rs j nan ≡ entryAt s j
+
+behind-heading : (t : HaplotypeCallerActivityScoringParams) (j : ℕ) → cellAt t (heading + j) ≡ entryAt t j
+unfolding cellAt
+behind-heading t j =
+    let place : heading + j - heading ≡ j = omega arith in
+    rw (ne-eqb (heading + j) 0 (λ e. absurd (omega (arith, e))), ne-eqb (heading + j) 1 (λ e. absurd (omega (arith, e))), place)
+
+module _ (s t : HaplotypeCallerActivityScoringParams) (table : List Float) (held : Holds t table) (few : ploidyOf t ≤ 255) (small : ploidyOf s ≤ 255) (for-s : isFor table s ≡ true) where
+  long : length table ≡ tableLength (ploidyOf s)
+  long = eqb-true _ _ (and-left (eqb (length table) (tableLength (ploidyOf s))) _ for-s)
+
+  carried : carries table s ≡ true
+  carried = and-right (eqb (length table) (tableLength (ploidyOf s))) _ for-s
+
+  one-ploidy : ploidyOf t ≡ ploidyOf s
   unfolding cellAt
+  one-ploidy =
+      whole-is (ploidyOf t) (ploidyOf s) (omega (arith, few)) (omega (arith, small))
+      (sym (held 0 (omega (arith, long)) (omega arith)) ∙ same-is (getD table 0 nan) (ploidyNumber s) (and-left (samePositive (getD table 0 nan) (ploidyNumber s)) _ carried))
+
+  one-multiplier : multiplierOf t ≡ multiplierOf s
+  unfolding cellAt
+  one-multiplier =
+      sym (held 1 (omega (arith, long)) (omega arith)) ∙ same-is (getD table 1 nan) (multiplierOf s) (and-right (samePositive (getD table 0 nan) (ploidyNumber s)) _ carried)
+
+  rows-held : Rows s (drop heading table)
+  rows-held j h =
+      getD-drop heading table j nan
+      ∙ held (heading + j) (omega (arith, long, h)) (rw one-ploidy (omega (arith, h)))
+      ∙ behind-heading t j
+      ∙ entry-same s t one-ploidy one-multiplier j
+
+module _ (s : HaplotypeCallerActivityScoringParams) (rs : List Float) (held : Rows s rs) where
+  -- entry i of row r
+  entry : (r i : ℕ) → r < 512 → i < rowLength (ploidyOf s) → getD rs (r * rowLength (ploidyOf s) + i) nan ≡ cellOf s r i
+  unfolding entryAt
   entry r i h k =
       let n = rowLength (ploidyOf s) in
       let some : 0 < n = omega arith in
       let below : r * n + i < 512 * n = omega (arith, mul-le-mul-right n h) in
       let row : (r * n + i) / n ≡ r = mul-add-div-right some r i ∙ rw (div-eq-of-lt k, add-zero) in
       let place : (r * n + i) % n ≡ i = mul-add-mod-self-right r n i ∙ mod-eq-of-lt k in
-      holds (r * n + i) (omega (arith, below)) ∙ rw (lt-ltb (r * n + i) (512 * n) below, row, place)
+      held (r * n + i) (omega (arith, below)) ∙ rw (lt-ltb (r * n + i) (512 * n) below, row, place)
 
-  last : getD table (rows * rowLength (ploidyOf s)) nan ≡ log10Whole (ploidyOf s)
-  unfolding cellAt
-  last = holds (rows * rowLength (ploidyOf s)) (omega arith) ∙ rw (le-ltb (rows * rowLength (ploidyOf s)) (rows * rowLength (ploidyOf s)) (omega arith))
+  last : getD rs (rows * rowLength (ploidyOf s)) nan ≡ log10Whole (ploidyOf s)
+  unfolding entryAt
+  last = held (rows * rowLength (ploidyOf s)) (omega arith) ∙ rw (le-ltb (rows * rowLength (ploidyOf s)) (rows * rowLength (ploidyOf s)) (omega arith))
 
 -- ---- so the sums are the same
 
@@ -112,50 +156,57 @@ row-below : (q : ℕ) (alt : Bool) → q ≤ 255 → q * 2 + cond alt 1 0 < 512
 row-below q true h = omega arith
 row-below q false h = omega arith
 
-taken-same : (s : HaplotypeCallerActivityScoringParams) (l : List Float) → tableLength (ploidyOf s) ≤ length l → s .«ref_model_deletion_qual» ≤ 255
-    → (i : ℕ) → i < rowLength (ploidyOf s) → (x : Float) (w : ℕ) → takenAt (filled s l) s i x w ≡ plainAt s i x w
+taken-same : (s : HaplotypeCallerActivityScoringParams) (rs : List Float) → Rows s rs → s .«ref_model_deletion_qual» ≤ 255
+    → (i : ℕ) → i < rowLength (ploidyOf s) → (x : Float) (w : ℕ) → takenAt rs s i x w ≡ plainAt s i x w
 unfolding takenAt
-taken-same s l long byte i h x w =
+taken-same s rs held byte i h x w =
     ap (λ (y : Float). cond (skipped s w) x (add binary64 x y))
-    (entry s l long (rowOf s w) i (row-below (qualOf s w) (observation w .«is_alt») (qual-byte s w byte)) h ∙ cell-of-row s (qualOf s w) (observation w .«is_alt») i)
+    (entry s rs held (rowOf s w) i (row-below (qualOf s w) (observation w .«is_alt») (qual-byte s w byte)) h ∙ cell-of-row s (qualOf s w) (observation w .«is_alt») i)
 
-by-filled : (s : HaplotypeCallerActivityScoringParams) (l : List Float) → tableLength (ploidyOf s) ≤ length l → s .«ref_model_deletion_qual» ≤ 255
+by-rows : (s : HaplotypeCallerActivityScoringParams) (rs : List Float) → Rows s rs → s .«ref_model_deletion_qual» ≤ 255
     → (n : ℕ) → n ≤ rowLength (ploidyOf s) → (words : List ℕ)
-    → tabulate (likelihoodAt (filled s l) s words (foldl (counted s) 0 words)) n ≡ likelihoods s n words
-by-filled s l long byte n h words =
-    let f = likelihoodAt (filled s l) s words (foldl (counted s) 0 words) in
+    → tabulate (likelihoodAt rs s words (foldl (counted s) 0 words)) n ≡ likelihoods s n words
+by-rows s rs held byte n h words =
+    let f = likelihoodAt rs s words (foldl (counted s) 0 words) in
     let g : ℕ → Float = λ i. less (plainShare s words) i (foldl (plainAt s i) zeroF words) in
     let at : (k : ℕ) → k < length (tabulate f n) → getD (tabulate f n) k nan ≡ getD (tabulate g n) k nan = λ k below.
     let less-n : k < n = rw (length-tabulate f n) at below in
-    let same : f k ≡ g k = rw (last s l long, foldl-same (takenAt (filled s l) s k) (plainAt s k) zeroF words (taken-same s l long byte k (omega arith))) in
+    let same : f k ≡ g k = rw (last s rs held, foldl-same (takenAt rs s k) (plainAt s k) zeroF words (taken-same s rs held byte k (omega arith))) in
     getD-tabulate f n k nan less-n ∙ same ∙ sym (getD-tabulate g n k nan less-n) in
     ext-getD nan (tabulate f n) (tabulate g n) (length-tabulate f n ∙ sym (length-tabulate g n)) at ∙ sym (plain-likelihoods s n words)
 
-length-filled : (s : HaplotypeCallerActivityScoringParams) (l : List Float) → length (filled s l) ≡ length l
-unfolding filled
-length-filled s l = go (ltb (length l) (tableLength (ploidyOf s)))
-  where
-    go : (b : Bool) → length (cond b l (each (tabled s) l)) ≡ length l
-    go true = refl
-    go false = length-each (tabled s) l
+-- ---- the laws
 
-pub likelihoods-by-filled : (s : HaplotypeCallerActivityScoringParams) (l : List Float) (n : ℕ) (words : List ℕ) → s .«ref_model_deletion_qual» ≤ 255
-    → likelihoodsBy (filled s l) s n words ≡ likelihoods s n words
-unfolding likelihoodsBy
-likelihoods-by-filled s l n words byte = go (fits (length (filled s l)) s n) refl
+-- filled for t, read for s; a ploidy and a quality are bytes
+pub likelihoods-by-filled : (s t : HaplotypeCallerActivityScoringParams) (table : List Float) (n : ℕ) (words : List ℕ) → Holds t table
+    → ploidyOf t ≤ 255 → ploidyOf s ≤ 255 → s .«ref_model_deletion_qual» ≤ 255 → likelihoodsBy table s n words ≡ likelihoods s n words
+unfolding likelihoodsBy serves
+likelihoods-by-filled s t table n words held few small byte = go (leb n (rowLength (ploidyOf s)) && isFor table s) refl
   where
-    go : (b : Bool) → fits (length (filled s l)) s n ≡ b
-        → cond b (tabulate (likelihoodAt (filled s l) s words (foldl (counted s) 0 words)) n) (likelihoods s n words) ≡ likelihoods s n words
+    go : (b : Bool) → (leb n (rowLength (ploidyOf s)) && isFor table s) ≡ b
+        → cond b (tabulate (likelihoodAt (drop heading table) s words (foldl (counted s) 0 words)) n) (likelihoods s n words) ≡ likelihoods s n words
     go true e =
-        let long : tableLength (ploidyOf s) ≤ length (filled s l) = leb-true _ _ (and-right (leb n (rowLength (ploidyOf s))) _ e) in
-        by-filled s l (omega (arith, length-filled s l)) byte n (leb-true _ _ (and-left (leb n (rowLength (ploidyOf s))) _ e)) words
+        by-rows s (drop heading table) (rows-held s t table held few small (and-right (leb n (rowLength (ploidyOf s))) _ e)) byte n
+        (leb-true _ _ (and-left (leb n (rowLength (ploidyOf s))) _ e)) words
     go false e = refl
 
--- and without a table too
-pub likelihoods-by-none : (s : HaplotypeCallerActivityScoringParams) (n : ℕ) (words : List ℕ) → likelihoodsBy [] s n words ≡ likelihoods s n words
-unfolding likelihoodsBy
-likelihoods-by-none s n words = go (fits 0 s n) refl
+-- a slice that does not begin with the ploidy is not read
+unread : (s : HaplotypeCallerActivityScoringParams) (table : List Float) (n : ℕ) (words : List ℕ) → samePositive (getD table 0 nan) (ploidyNumber s) ≡ false
+    → likelihoodsBy table s n words ≡ likelihoods s n words
+unfolding likelihoodsBy serves
+unread s table n words e = rw e (go (leb n (rowLength (ploidyOf s))) (eqb (length table) (tableLength (ploidyOf s))))
   where
-    go : (b : Bool) → fits 0 s n ≡ b → cond b (tabulate (likelihoodAt [] s words (foldl (counted s) 0 words)) n) (likelihoods s n words) ≡ likelihoods s n words
-    go true e = absurd (omega (arith, leb-true (tableLength (ploidyOf s)) 0 (and-right (leb n (rowLength (ploidyOf s))) _ e)))
-    go false e = refl
+    go : (b c : Bool) → cond (b && (c && (false && samePositive (getD table 1 nan) (multiplierOf s)))) (tabulate (likelihoodAt (drop heading table) s words (foldl (counted s) 0 words)) n) (likelihoods s n words)
+        ≡ likelihoods s n words
+    go true true = refl
+    go true false = refl
+    go false c = refl
+
+-- so it is by a slice of zeros that nothing was filled into, of any length
+pub likelihoods-by-zeros : (s : HaplotypeCallerActivityScoringParams) (k n : ℕ) (words : List ℕ) → likelihoodsBy (replicate k zeroF) s n words ≡ likelihoods s n words
+unfolding samePositive
+likelihoods-by-zeros s k n words = unread s (replicate k zeroF) n words (go k)
+  where
+    go : (k : ℕ) → samePositive (getD (replicate k zeroF) 0 nan) (ploidyNumber s) ≡ false
+    go zero = refl
+    go (suc k) = none-is-zero (ploidyNumber s)

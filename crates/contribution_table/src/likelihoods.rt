@@ -1,4 +1,5 @@
 // The likelihoods of every genotype over a whole pile, by a table.
+use crate::HEADING;
 use crate::ROWS;
 use crate::Sums;
 use crate::fill::row_length;
@@ -6,18 +7,17 @@ use crate::fill::table_length;
 use genotype_likelihoods::HaplotypeCallerActivityScoringParams;
 use pileup_words::PileupObservation;
 ghost use mathlib.Core.Path.{_≡_};
-ghost use mathlib.Core.Bool.{true, cond};
+ghost use mathlib.Core.Bool.{cond};
 ghost use Prim.Native.Nat.{_+_, _*_, _/_, _%_, _<_, _≤_};
 ghost use lib.ListN.{length};
 ghost use Rattle.lists.specs.Each.{tabulate};
 ghost use Rattle.lists.specs.Loops.{foldl};
 ghost use Rattle.genotype_likelihoods.specs.Likelihoods.{counted};
-ghost use Rattle.contribution_table.specs.Table.{ploidyOf, rowLength, tableLength, fits, sumAt, likelihoodsBy};
+ghost use Rattle.contribution_table.specs.Table.{ploidyOf, rowLength, rowsLength, serves, sumAt, likelihoodAt, likelihoodsBy};
 ghost use Rattle.contribution_table.specs.Sums.{noSums, allTaken, sumsFrom, sumIn};
 
-// Writes what `genotype_likelihoods::calc_ref_vs_any_log10_genotype_likelihoods` writes, where the table is one that
-// `fill_contribution_table` filled for these settings. A table that is too short for them, or for the slice, is not
-// looked at.
+// Writes what `genotype_likelihoods::calc_ref_vs_any_log10_genotype_likelihoods` writes. A table that carries other
+// settings, or is of another length than `table_length`, is not looked at, and neither is one with too few genotypes.
 pub fn calc_ref_vs_any_log10_genotype_likelihoods_by_table(
     gl: &mut [f64],
     pile: &[u32],
@@ -26,24 +26,43 @@ pub fn calc_ref_vs_any_log10_genotype_likelihoods_by_table(
 )
     ensures { λ _. ⌜ now (gl .exit) ≡ likelihoodsBy (now (table .entry)) params (length (now (gl .entry))) (now (pile .entry)) ⌝ }
 {
-    if !has_entries(table.len(), gl.len(), params) {
+    if !is_for(table, gl.len(), params) {
         genotype_likelihoods::calc_ref_vs_any_log10_genotype_likelihoods(gl, pile, params);
         return;
     }
-    let read_count = write_sums(gl, pile, params, table);
-    let log10_ploidy = table[ROWS * row_length(params.sample_ploidy)];
-    let denom = std::num::nearest_u64_to_f64(read_count) * log10_ploidy;
-    genotype_likelihoods::subtract(gl, denom);
+    write_likelihoods(gl, pile, params, &table[HEADING..]);
 }
 
-// Whether so many genotypes have their entries in a table of so many numbers.
-fn has_entries(cells: usize, genotypes: usize, params: HaplotypeCallerActivityScoringParams) -> bool
-    ensures { λ r. ⌜ r ≡ fits cells params genotypes ⌝ }
+// Whether a table carries these settings, and has entries for so many genotypes.
+fn is_for(table: &[f64], genotypes: usize, params: HaplotypeCallerActivityScoringParams) -> bool
+    ensures { λ r. ⌜ r ≡ serves (now (table .entry)) params genotypes ⌝ }
 {
     let p = params.sample_ploidy;
     let row = row_length(p);
-    let all = table_length(p);
-    (genotypes <= row) & (all <= cells)
+    if table.len() != table_length(p) {
+        return false;
+    }
+    let ploidy = numbers::same_positive(table[0], p.0 as f64);
+    let multiplier = numbers::same_positive(table[1], params.active_region_alt_multiplier);
+    (genotypes <= row) & (ploidy & multiplier)
+}
+
+// Writes each genotype's likelihood, by the rows of a table.
+fn write_likelihoods(
+    gl: &mut [f64],
+    pile: &[u32],
+    params: HaplotypeCallerActivityScoringParams,
+    rows: &[f64],
+)
+    requires { ⌜ (length (now gl) ≤ rowLength (ploidyOf params)) × (rowsLength (ploidyOf params) ≤ length (now rows)) ⌝ }
+    ensures { λ _. ⌜ now (gl .exit)
+        ≡ tabulate (likelihoodAt (now (rows .entry)) params (now (pile .entry)) (foldl (counted params) 0 (now (pile .entry))))
+        (length (now (gl .entry))) ⌝ }
+{
+    let read_count = write_sums(gl, pile, params, rows);
+    let log10_ploidy = rows[ROWS * row_length(params.sample_ploidy)];
+    let denom = std::num::nearest_u64_to_f64(read_count) * log10_ploidy;
+    genotype_likelihoods::subtract(gl, denom);
 }
 
 // Writes each genotype's sum, four genotypes at a time. Answers how many words are not skipped, where there is a genotype.
@@ -51,16 +70,16 @@ fn write_sums(
     gl: &mut [f64],
     pile: &[u32],
     params: HaplotypeCallerActivityScoringParams,
-    table: &[f64],
+    rows: &[f64],
 ) -> u64
-    requires { ⌜ fits (length (now table)) params (length (now gl)) ≡ true ⌝ }
+    requires { ⌜ (length (now gl) ≤ rowLength (ploidyOf params)) × (rowsLength (ploidyOf params) ≤ length (now rows)) ⌝ }
     ensures { λ r. ⌜ (0 < length (now (gl .entry)) → r ≡ foldl (counted params) 0 (now (pile .entry))) ⌝ }
-    ensures { λ _. ⌜ now (gl .exit) ≡ tabulate (sumAt (now (table .entry)) params (now (pile .entry))) (length (now (gl .entry))) ⌝ }
+    ensures { λ _. ⌜ now (gl .exit) ≡ tabulate (sumAt (now (rows .entry)) params (now (pile .entry))) (length (now (gl .entry))) ⌝ }
 {
     let mut sums = no_sums();
     let mut i = 0;
     while i < gl.len() {
-        sums = sums_at(sums, pile, params, table, i);
+        sums = sums_at(sums, pile, params, rows, i);
         gl[i] = sum_in(sums, i % 4);
         i += 1;
     }
@@ -84,16 +103,16 @@ fn sums_at(
     sums: Sums,
     pile: &[u32],
     params: HaplotypeCallerActivityScoringParams,
-    table: &[f64],
+    rows: &[f64],
     i: usize,
 ) -> Sums
     requires { ⌜ (i < rowLength (ploidyOf params))
-        × (tableLength (ploidyOf params) ≤ length (now table))
-        × (0 < i % 4 → sums ≡ sumsFrom (now table) params (now pile) (i / 4 * 4)) ⌝ }
-    ensures { λ r. ⌜ r ≡ sumsFrom (now (table .entry)) params (now (pile .entry)) (i / 4 * 4) ⌝ }
+        × (rowsLength (ploidyOf params) ≤ length (now rows))
+        × (0 < i % 4 → sums ≡ sumsFrom (now rows) params (now pile) (i / 4 * 4)) ⌝ }
+    ensures { λ r. ⌜ r ≡ sumsFrom (now (rows .entry)) params (now (pile .entry)) (i / 4 * 4) ⌝ }
 {
     if i % 4 == 0 {
-        return sums_from(pile, params, table, i);
+        return sums_from(pile, params, rows, i);
     }
     sums
 }
@@ -102,17 +121,17 @@ fn sums_at(
 fn sums_from(
     pile: &[u32],
     params: HaplotypeCallerActivityScoringParams,
-    table: &[f64],
+    rows: &[f64],
     i: usize,
 ) -> Sums
-    requires { ⌜ (i + 4 ≤ rowLength (ploidyOf params)) × (tableLength (ploidyOf params) ≤ length (now table)) ⌝ }
-    ensures { λ r. ⌜ r ≡ sumsFrom (now (table .entry)) params (now (pile .entry)) i ⌝ }
+    requires { ⌜ (i + 4 ≤ rowLength (ploidyOf params)) × (rowsLength (ploidyOf params) ≤ length (now rows)) ⌝ }
+    ensures { λ r. ⌜ r ≡ sumsFrom (now (rows .entry)) params (now (pile .entry)) i ⌝ }
 {
     let row = row_length(params.sample_ploidy);
     let mut sums = no_sums();
     let mut k = 0;
     while k < pile.len() {
-        sums = with_word(sums, pile[k], params, table, row, i);
+        sums = with_word(sums, pile[k], params, rows, row, i);
         k += 1;
     }
     sums
@@ -123,7 +142,7 @@ fn with_word(
     sums: Sums,
     w: u32,
     params: HaplotypeCallerActivityScoringParams,
-    table: &[f64],
+    rows: &[f64],
     row: usize,
     i: usize,
 ) -> Sums
@@ -131,8 +150,8 @@ fn with_word(
         × (row ≡ rowLength (ploidyOf params))
         × (row ≤ 256)
         × (i + 4 ≤ row)
-        × (tableLength (ploidyOf params) ≤ length (now table)) ⌝ }
-    ensures { λ r. ⌜ r ≡ allTaken (now (table .entry)) params i sums w ⌝ }
+        × (rowsLength (ploidyOf params) ≤ length (now rows)) ⌝ }
+    ensures { λ r. ⌜ r ≡ allTaken (now (rows .entry)) params i sums w ⌝ }
 {
     let obs = PileupObservation::from_word(w);
     let qual = genotype_likelihoods::effective_qual(obs, params);
@@ -142,10 +161,10 @@ fn with_word(
     let at = place_of(qual, obs.is_alt, row, i);
     Sums {
         count: sums.count + 1,
-        a: sums.a + table[at],
-        b: sums.b + table[at + 1],
-        c: sums.c + table[at + 2],
-        d: sums.d + table[at + 3],
+        a: sums.a + rows[at],
+        b: sums.b + rows[at + 1],
+        c: sums.c + rows[at + 2],
+        d: sums.d + rows[at + 3],
     }
 }
 

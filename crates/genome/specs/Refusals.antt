@@ -1,14 +1,14 @@
 -- 01, Refusals: the number of each, and what a call that may be refused comes to.
 use Prim.Native.Nat.{ℕ}
 use Rattle.genome.specs.declared.Refusal.{Refusal}
-use Rattle.genome.specs.declared.Refusal.the-variants.{Setting, KernelBuffer, Word, Depth, BrokenProfile, Contig, OffContig, Activity, NotNext, Cells, ZeroSize}
+use Rattle.genome.specs.declared.Refusal.the-variants.{Setting, Buffer, Word, Depth, BrokenProfile, Contig, OffContig, Activity, NotNext, Cells, ZeroSize}
 
 -- the numbers of document 01, in its words
 abbrev pub settingRefusal : ℕ
 settingRefusal = 1
 
-abbrev pub kernelBufferRefusal : ℕ
-kernelBufferRefusal = 2
+abbrev pub bufferRefusal : ℕ
+bufferRefusal = 2
 
 abbrev pub wordRefusal : ℕ
 wordRefusal = 3
@@ -39,7 +39,7 @@ zeroSizeRefusal = 11
 
 abbrev pub numberOf : Refusal → ℕ
 numberOf Setting = settingRefusal
-numberOf KernelBuffer = kernelBufferRefusal
+numberOf Buffer = bufferRefusal
 numberOf Word = wordRefusal
 numberOf Depth = depthRefusal
 numberOf BrokenProfile = brokenRefusal

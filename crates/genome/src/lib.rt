@@ -15,8 +15,8 @@ pub const MAX_POSITION: u32 = 1_073_741_823;
 pub enum Refusal {
     // A setting outside its range.
     Setting,
-    // A kernel buffer that is too short.
-    KernelBuffer,
+    // A lent buffer that is too short: a kernel buffer, or a table of scoring.
+    Buffer,
     // A word, or a remainder of bytes, that is not allowed where it stands.
     Word,
     // A pile of too many words.
@@ -44,7 +44,7 @@ impl Refusal {
     {
         match self {
             Refusal::Setting => 1,
-            Refusal::KernelBuffer => 2,
+            Refusal::Buffer => 2,
             Refusal::Word => 3,
             Refusal::Depth => 4,
             Refusal::BrokenProfile => 5,

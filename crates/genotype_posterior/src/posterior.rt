@@ -1,10 +1,12 @@
 // The probability that a sample is not all reference.
+use crate::HEADING;
+use genome::Ploidy;
 ghost use mathlib.Core.Path.{_≡_};
 ghost use Prim.Native.Nat.{_-_, _<_, _≤_};
 ghost use lib.ListN.{length};
 ghost use Rattle.lists.specs.Each.{each};
 ghost use Rattle.genotype_posterior.specs.Posterior.{logBinomial, lnPrior, unnormalized, nonRef, posterior, posteriorWritten};
-ghost use Rattle.genotype_posterior.specs.Priors.{log10Priors, withPrior, unnormalizedBy, posteriorBy, posteriorWrittenBy};
+ghost use Rattle.genotype_posterior.specs.Priors.{priorsLength, priorAt, log10Priors, areFor, withPrior, unnormalizedBy, posteriorBy, posteriorWrittenBy};
 
 // From the rounded likelihoods of ploidy + 1 genotypes, over which the unnormalized posteriors are written. 0.0, with
 // nothing written, where the reference genotype is the likeliest; 0.0 too where it has the largest posterior.
@@ -78,29 +80,67 @@ fn non_ref(u: &[f64]) -> f64
 
 // ---- by priors that are worked out once for the settings
 
-// Fills the slice with the log10 priors of its genotypes: entry n is for n copies of the alternate, and the ploidy is
-// one less than its length.
+// Fills the front of the slice with the list of these settings: the settings, then the log10 prior of each genotype, from
+// no copy of the alternate on. A slice that is shorter than `priors_length` is left as it is.
 pub fn fill_log10_priors(
     priors: &mut [f64],
+    ploidy: Ploidy,
     snp_heterozygosity: f64,
     heterozygosity_standard_deviation: f64,
 )
     ensures { λ _. ⌜ now (priors .exit)
-        ≡ log10Priors «snp_heterozygosity» «heterozygosity_standard_deviation» (now (priors .entry)) ⌝ }
+        ≡ log10Priors (ploidy .0) «snp_heterozygosity» «heterozygosity_standard_deviation» (now (priors .entry)) ⌝ }
 {
-    let ref_pc = snp_heterozygosity
-        / (heterozygosity_standard_deviation * heterozygosity_standard_deviation);
-    let alt_pc = snp_heterozygosity * ref_pc;
-    let mut i = 0;
-    while i < priors.len() {
-        priors[i] = ln_prior(priors.len() as u64 - 1, i as u64, ref_pc, alt_pc)
-            * elementary::LOG10_E;
-        i += 1;
+    let n = priors_length(ploidy);
+    if priors.len() < n {
+        return;
+    }
+    let mut j = 0;
+    while j < n {
+        priors[j] = prior_at(
+            j,
+            ploidy,
+            snp_heterozygosity,
+            heterozygosity_standard_deviation,
+        );
+        j += 1;
     }
 }
 
-// As `calculate_single_sample_biallelic_non_ref_posterior`, where the priors are those that `fill_log10_priors` filled
-// for these settings. Priors of another number of genotypes are not looked at.
+// How many numbers the list of a ploidy has.
+pub fn priors_length(ploidy: Ploidy) -> usize
+    ensures { λ r. ⌜ r ≡ priorsLength (ploidy .0) ⌝ }
+{
+    HEADING + (ploidy.0 as usize + 1)
+}
+
+// What stands at a place of the list.
+fn prior_at(
+    j: usize,
+    ploidy: Ploidy,
+    snp_heterozygosity: f64,
+    heterozygosity_standard_deviation: f64,
+) -> f64
+    requires { ⌜ j < priorsLength (ploidy .0) ⌝ }
+    ensures { λ r. ⌜ r ≡ priorAt (ploidy .0) «snp_heterozygosity» «heterozygosity_standard_deviation» j ⌝ }
+{
+    if j == 0 {
+        return ploidy.0 as f64;
+    }
+    if j == 1 {
+        return snp_heterozygosity;
+    }
+    if j == 2 {
+        return heterozygosity_standard_deviation;
+    }
+    let ref_pc = snp_heterozygosity
+        / (heterozygosity_standard_deviation * heterozygosity_standard_deviation);
+    let alt_pc = snp_heterozygosity * ref_pc;
+    ln_prior(ploidy.0 as u64, (j - HEADING) as u64, ref_pc, alt_pc) * elementary::LOG10_E
+}
+
+// As `calculate_single_sample_biallelic_non_ref_posterior`, by a list that `fill_log10_priors` filled. A list that carries
+// other settings, or is of another length than `priors_length`, is not looked at.
 pub fn calculate_single_sample_biallelic_non_ref_posterior_by_priors(
     gl: &mut [f64],
     snp_heterozygosity: f64,
@@ -138,13 +178,42 @@ fn unnormalize(
         ≡ unnormalizedBy (now (priors .entry)) «snp_heterozygosity» «heterozygosity_standard_deviation»
         (now (gl .entry)) ⌝ }
 {
-    if priors.len() == gl.len() {
-        add_priors(gl, priors);
+    if are_for(
+        priors,
+        gl.len(),
+        snp_heterozygosity,
+        heterozygosity_standard_deviation,
+    ) {
+        add_priors(gl, &priors[HEADING..]);
         return;
     }
     let ref_pc = snp_heterozygosity
         / (heterozygosity_standard_deviation * heterozygosity_standard_deviation);
     write_unnormalized(gl, ref_pc, snp_heterozygosity * ref_pc);
+}
+
+// Whether a list carries these settings, and has a prior for each of so many genotypes.
+fn are_for(
+    priors: &[f64],
+    genotypes: usize,
+    snp_heterozygosity: f64,
+    heterozygosity_standard_deviation: f64,
+) -> bool
+    requires { ⌜ 0 < genotypes ⌝ }
+    ensures { λ r. ⌜ r
+        ≡ areFor (now (priors .entry)) genotypes «snp_heterozygosity» «heterozygosity_standard_deviation» ⌝ }
+{
+    if priors.len() < HEADING {
+        return false;
+    }
+    if priors.len() - HEADING != genotypes {
+        return false;
+    }
+    let ploidy = std::num::nearest_u64_to_f64(genotypes as u64 - 1);
+    let same = numbers::same_positive(priors[0], ploidy);
+    let mean = numbers::same_positive(priors[1], snp_heterozygosity);
+    let spread = numbers::same_positive(priors[2], heterozygosity_standard_deviation);
+    same & (mean & spread)
 }
 
 fn add_priors(gl: &mut [f64], priors: &[f64])

@@ -1,19 +1,21 @@
 -- The part's numbers: a record, a region and a score as fixed fields, and answers as one number.
-use mathlib.Core.Bool.{Bool, cond}
+use mathlib.Core.Bool.{Bool, cond, _||_}
 use mathlib.Core.List.{List, [], _∷_}
 use mathlib.Core.Path.{_≡_, refl}
 use Prim.Native.Nat.{ℕ}
-use lib.Dec.{eqb}
-use lib.ListN.{getD, take}
+use lib.Dec.{eqb, ltb}
+use lib.ListN.{length, getD, take}
 use lib.Ieee.{Float}
-use Rattle.genome.specs.Refusals.{Outcome, refused, answered}
+use Rattle.genome.specs.Refusals.{Outcome, refused, answered, bufferRefusal}
 use Rattle.band_pass_kernel.specs.Kernel.{band}
+use Rattle.band_pass_kernel.specs.Resolve.{writtenTo}
 use Rattle.band_pass_kernel.specs.declared.BandPassActivityProfileParams.{BandPassActivityProfileParams}
 use Rattle.activity_profile.specs.declared.BandPassActivityProfile.{BandPassActivityProfile}
 use Rattle.activity_profile.specs.declared.ActivityProfileRegion.{ActivityProfileRegion}
 use Rattle.activity_profile.specs.declared.ActivityProfileState.{ActivityProfileState}
 use Rattle.activity_profile.specs.declared.ActivityEvidence.{ActivityEvidence}
 use Rattle.activity_profile.specs.declared.ActivityEvidence.the-variants.{Plain, HighQualitySoftClips}
+use Rattle.activity_profile.specs.Verdict.{Verdict, refusal, granted}
 use Rattle.activity_profile.specs.Add.{AddAnswer, refusedAdd, acceptedAdd}
 use Rattle.activity_profile.specs.Pop.{PopAnswer, refusedPop, emptyPop, heldPop, regionPop}
 use Rattle.genotype_likelihoods.specs.declared.HaplotypeCallerActivityScoringParams.{HaplotypeCallerActivityScoringParams}
@@ -128,6 +130,20 @@ popRegion (regionPop r p) old = regionFields r
 -- the kernel that a making left, at the front of whichever buffer holds it
 abbrev pub kernelOf : ℕ → ℕ → List Float → List Float → List Float
 kernelOf f widest full narrow = take (band f) (cond (eqb f widest) full narrow)
+
+-- one of three slices is too short for 2F + 1 numbers
+abbrev pub shortFor : ℕ → List Float → List Float → List Float → Bool
+shortFor f kernel full narrow = ltb (length kernel) (band f) || (ltb (length full) (band f) || ltb (length narrow) (band f))
+
+-- 2 then, and nothing is written; else the kernel is copied to the front
+pub record Copies (f widest : ℕ) (kernel kernel′ full narrow : List Float) (r : ℕ) : Type 0 where
+  pub number : r ≡ cond (shortFor f kernel full narrow) bufferRefusal 0
+  pub written : kernel′ ≡ cond (shortFor f kernel full narrow) kernel (writtenTo kernel (band f) (kernelOf f widest full narrow))
+
+-- a filling's verdict
+abbrev pub verdictNumber : Verdict → ℕ
+verdictNumber (refusal n) = n
+verdictNumber granted = 0
 
 -- ---- what a call promises of its answer and of what it writes
 

@@ -12,14 +12,14 @@ use activity_profile::Made;
 use activity_profile::Popped;
 use band_pass_kernel::BandPassActivityProfileParams;
 use genome::GenomePosition;
+use genome::Refusal;
 ghost use mathlib.Core.Path.{_≡_};
 ghost use lib.ListN.{length};
 ghost use Rattle.activity_profile.specs.Making.{making, fullAfterMaking, narrowAfterMaking};
 ghost use Rattle.activity_profile.specs.Add.{addAnswer, addCells};
 ghost use Rattle.activity_profile.specs.Pop.{popAnswer, popCells};
 ghost use Rattle.region_picker.specs.Part.{recordOf, profileOf, regionFields, evidenceFrom, stateFrom, paramsFrom};
-ghost use Rattle.region_picker.specs.Part.{kernelOf, Answers, Adds, Pops};
-ghost use Rattle.band_pass_kernel.specs.Resolve.{copied, copiedLength};
+ghost use Rattle.region_picker.specs.Part.{Copies, Answers, Adds, Pops};
 
 // Makes an empty profile of a contig: its numbers are written to `profile`, and its kernel stands in one of the two
 // buffers. Answers 0, or the number of a refusal, which writes nothing.
@@ -67,8 +67,8 @@ pub extern "C" fn region_picker_make(
     }
 }
 
-// Copies the kernel of the profile that a making left in its buffers to the front of `kernel`, and answers its length,
-// 2F + 1. A slice that is too short is left as it is, and the answer is 0.
+// Copies the kernel of the profile that a making left in its buffers, 2F + 1 numbers, to the front of `kernel`, and
+// answers 0. Where one of the three slices is too short for it, the answer is 2, and nothing is written.
 #[no_mangle]
 pub extern "C" fn region_picker_kernel<'a>(
     kernel: &mut [f64],
@@ -76,14 +76,14 @@ pub extern "C" fn region_picker_kernel<'a>(
     max_filter_size: u32,
     full: &'a [f64],
     narrow: &'a [f64],
-) -> usize
-    ensures { λ r. ⌜ r
-        ≡ copiedLength (length (kernelOf «filter_size» «max_filter_size» (now (full .entry)) (now (narrow .entry))))
-        (length (now (kernel .entry))) ⌝ }
-    ensures { λ _. ⌜ now (kernel .exit)
-        ≡ copied (kernelOf «filter_size» «max_filter_size» (now (full .entry)) (now (narrow .entry)))
-        (now (kernel .entry)) ⌝ }
+) -> u32
+    ensures { λ r. ⌜ Copies «filter_size» «max_filter_size» (now (kernel .entry)) (now (kernel .exit))
+        (now (full .entry)) (now (narrow .entry)) r ⌝ }
 {
+    let n = 2 * filter_size as usize + 1;
+    if (kernel.len() < n) | ((full.len() < n) | (narrow.len() < n)) {
+        return Refusal::Buffer.number();
+    }
     let params = BandPassActivityProfileParams {
         max_prob_propagation_distance: 0,
         active_prob_threshold: 0.0,
@@ -91,7 +91,8 @@ pub extern "C" fn region_picker_kernel<'a>(
         sigma: 1.0,
         adaptive_filter_size: false,
     };
-    band_pass_kernel::copy_kernel(kernel, params.normalized_kernel(filter_size, full, narrow))
+    band_pass_kernel::copy_kernel(kernel, params.normalized_kernel(filter_size, full, narrow));
+    0
 }
 
 // Adds the next locus. Answers 0, or the number of a refusal, which writes nothing.

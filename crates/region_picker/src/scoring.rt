@@ -1,15 +1,18 @@
 // Scoring a pile by tables, and the count of soft-clipped bases.
 use activity_profile::ActivityEvidence;
+use activity_scoring::Filling;
 use activity_scoring::Scored;
 use genome::GenomePosition;
 use genome::Ploidy;
 use genotype_likelihoods::HaplotypeCallerActivityScoringParams;
 use hq_soft_clip::SoftClips;
 ghost use mathlib.Core.Path.{_≡_};
-ghost use Rattle.contribution_table.specs.Table.{tableLength, filled};
-ghost use Rattle.activity_scoring.specs.Tables.{priorsFilled, scoreBy};
+ghost use lib.ListN.{length};
+ghost use Rattle.contribution_table.specs.Table.{tableLength};
+ghost use Rattle.genotype_posterior.specs.Priors.{priorsLength};
+ghost use Rattle.activity_scoring.specs.Tables.{fillVerdict, tableAfter, priorsAfter, scoreBy};
 ghost use Rattle.hq_soft_clip.specs.SoftClips.{clipCount};
-ghost use Rattle.region_picker.specs.Part.{scoringFrom, evidenceFields, Answers, Scores};
+ghost use Rattle.region_picker.specs.Part.{scoringFrom, evidenceFields, verdictNumber, Answers, Scores};
 
 // How many numbers the table of a ploidy has.
 #[no_mangle]
@@ -19,8 +22,17 @@ pub extern "C" fn region_picker_table_length(ploidy: u8) -> usize
     contribution_table::table_length(Ploidy(ploidy))
 }
 
-// Fills the tables that scoring is handed for these settings: `table`, of `region_picker_table_length` numbers or more,
-// and `priors`, of ploidy + 1. To be called once, and again when a setting changes.
+// How many numbers the list of priors of a ploidy has.
+#[no_mangle]
+pub extern "C" fn region_picker_priors_length(ploidy: u8) -> usize
+    ensures { λ r. ⌜ r ≡ priorsLength ploidy ⌝ }
+{
+    genotype_posterior::priors_length(Ploidy(ploidy))
+}
+
+// Fills the tables that scoring is handed: `table`, of `region_picker_table_length` numbers or more, and `priors`, of
+// `region_picker_priors_length` or more. To be called once, and again when a setting changes. Answers 0; 1 for a setting
+// outside its range; 2 for a slice that is too short. A refusal writes nothing.
 #[no_mangle]
 pub extern "C" fn region_picker_fill_tables(
     table: &mut [f64],
@@ -32,13 +44,16 @@ pub extern "C" fn region_picker_fill_tables(
     ref_model_deletion_qual: u8,
     active_region_alt_multiplier: f64,
     flow_based_reference_model: bool,
-)
-    ensures { λ _. ⌜ now (table .exit) ≡ filled (scoringFrom «min_base_quality_score» «sample_ploidy» «snp_heterozygosity»
+) -> u32
+    ensures { λ r. ⌜ r ≡ verdictNumber (fillVerdict (scoringFrom «min_base_quality_score» «sample_ploidy» «snp_heterozygosity»
         «heterozygosity_standard_deviation» «ref_model_deletion_qual» «active_region_alt_multiplier»
-        «flow_based_reference_model») (now (table .entry)) ⌝ }
-    ensures { λ _. ⌜ now (priors .exit) ≡ priorsFilled (scoringFrom «min_base_quality_score» «sample_ploidy» «snp_heterozygosity»
+        «flow_based_reference_model») (length (now (table .entry))) (length (now (priors .entry)))) ⌝ }
+    ensures { λ _. ⌜ now (table .exit) ≡ tableAfter (scoringFrom «min_base_quality_score» «sample_ploidy» «snp_heterozygosity»
         «heterozygosity_standard_deviation» «ref_model_deletion_qual» «active_region_alt_multiplier»
-        «flow_based_reference_model») (now (priors .entry)) ⌝ }
+        «flow_based_reference_model») (now (table .entry)) (now (priors .entry)) ⌝ }
+    ensures { λ _. ⌜ now (priors .exit) ≡ priorsAfter (scoringFrom «min_base_quality_score» «sample_ploidy» «snp_heterozygosity»
+        «heterozygosity_standard_deviation» «ref_model_deletion_qual» «active_region_alt_multiplier»
+        «flow_based_reference_model») (now (table .entry)) (now (priors .entry)) ⌝ }
 {
     let params = scoring_params(
         min_base_quality_score,
@@ -49,17 +64,17 @@ pub extern "C" fn region_picker_fill_tables(
         active_region_alt_multiplier,
         flow_based_reference_model,
     );
-    contribution_table::fill_contribution_table(table, params);
-    genotype_posterior::fill_log10_priors(
-        priors,
-        snp_heterozygosity,
-        heterozygosity_standard_deviation,
-    );
+    let filling = activity_scoring::fill_tables(table, priors, params);
+    match filling {
+        Filling::Filled => 0,
+        Filling::Refused(why) => why.number(),
+    }
 }
 
 // Scores a pile of observation words. Answers 0 with the probability and the original probability in `activity`, and in
 // `evidence` 1 and the clip count, or 0 and 0 for plain evidence; or the number of a refusal, which writes nothing. The
-// score is the same without tables (slices of length 0), only slower.
+// score is the same by tables that were filled for other settings, or never, and without any (slices of length 0): those
+// are not looked at, and it takes longer.
 #[no_mangle]
 pub extern "C" fn region_picker_score(
     pos: u32,

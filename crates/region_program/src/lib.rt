@@ -14,10 +14,10 @@ pub const KERNEL: usize = 1001;
 // One word more than the deepest pile: a pile that fills it is refused, whatever words would follow.
 pub const PILE: usize = 16385;
 
-// The tables that piles are scored by, for the settings of scoring that a stream has: contribution_table's, and the priors of 3 genotypes.
-pub const TABLE: usize = 2049;
+// The tables that piles are scored by, of a ploidy of 2: contribution_table's, and genotype_posterior's list of priors.
+pub const TABLE: usize = 2051;
 
-pub const PRIORS: usize = 3;
+pub const PRIORS: usize = 6;
 
 // The one contig of a stream.
 pub const CONTIG: u32 = 0;

@@ -35,6 +35,7 @@ pub fn fill_tables(table: &mut [f64; TABLE], priors: &mut [f64; PRIORS])
     contribution_table::fill_contribution_table(table, params);
     genotype_posterior::fill_log10_priors(
         priors,
+        params.sample_ploidy,
         params.snp_heterozygosity,
         params.heterozygosity_standard_deviation,
     );

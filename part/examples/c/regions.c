@@ -8,13 +8,14 @@
 #define CELLS 4096
 #define KERNEL 1001
 #define DEPTH 16385 /* one word more than the deepest pile */
-#define TABLE 2049
+#define TABLE 2051
+#define PRIORS 6
 #define SCORING 10, 2, 0.001, 0.01, 30, 1.0, false
 
 static const double threshold = 0.002;
 
 static uint32_t profile[REGION_PICKER_PROFILE];
-static double full[KERNEL], narrow[KERNEL], kernel[KERNEL], cells[CELLS], table[TABLE], priors[3];
+static double full[KERNEL], narrow[KERNEL], kernel[KERNEL], cells[CELLS], table[TABLE], priors[PRIORS];
 static size_t kernel_length;
 static uint32_t pile[DEPTH];
 static size_t depth;
@@ -37,7 +38,7 @@ static void end_pile(void) {
     if (!is_open)
         return;
     is_open = false;
-    refusal = region_picker_score(position, pile, depth, table, TABLE, priors, 3, SCORING, activity, evidence);
+    refusal = region_picker_score(position, pile, depth, table, TABLE, priors, PRIORS, SCORING, activity, evidence);
     if (refusal == 0)
         refusal = region_picker_add(profile, threshold, 0, position, activity[0], activity[1], evidence[0] == 1, evidence[1], kernel, kernel_length, cells, CELLS);
     if (refusal != 0)
@@ -48,9 +49,11 @@ static void locus(uint32_t value, uint64_t index) {
     end_pile();
     if (!is_made) {
         uint32_t refusal = region_picker_make(profile, 0, settings[6], settings[4], threshold, settings[5], 17.0, true, full, KERNEL, narrow, KERNEL);
+        if (refusal == 0)
+            refusal = region_picker_kernel(kernel, KERNEL, profile[REGION_PICKER_FILTER_SIZE], settings[5], full, KERNEL, narrow, KERNEL);
         if (refusal != 0)
             refuse(refusal, index);
-        kernel_length = region_picker_kernel(kernel, KERNEL, profile[REGION_PICKER_FILTER_SIZE], settings[5], full, KERNEL, narrow, KERNEL);
+        kernel_length = 2 * (size_t)profile[REGION_PICKER_FILTER_SIZE] + 1;
         is_made = true;
     }
     is_open = true;
@@ -98,7 +101,8 @@ int main(void) {
     unsigned char bytes[4];
     size_t got;
     uint64_t index = 0;
-    region_picker_fill_tables(table, TABLE, priors, 3, SCORING);
+    if (region_picker_fill_tables(table, TABLE, priors, PRIORS, SCORING) != 0)
+        return 1;
     for (; (got = fread(bytes, 1, 4, stdin)) == 4; index++) {
         uint32_t word = bytes[0] | (uint32_t)bytes[1] << 8 | (uint32_t)bytes[2] << 16 | (uint32_t)bytes[3] << 24;
         uint32_t value = word & 0x3fffffff;

@@ -1,8 +1,8 @@
 //! The part, and the profile and the tables that a caller keeps.
 
 use crate::region_picker::{
-    region_picker_add, region_picker_fill_tables, region_picker_kernel, region_picker_make, region_picker_pop, region_picker_score,
-    region_picker_table_length,
+    region_picker_add, region_picker_fill_tables, region_picker_kernel, region_picker_make, region_picker_pop, region_picker_priors_length,
+    region_picker_score, region_picker_table_length,
 };
 
 /// Scoring with the Rust's defaults and a ploidy, its tables filled.
@@ -15,9 +15,9 @@ pub struct Scorer {
 impl Scorer {
     pub fn new(ploidy: u8) -> Self {
         let mut table = vec![0.0; unsafe { region_picker_table_length(ploidy) }];
-        let mut priors = vec![0.0; usize::from(ploidy) + 1];
+        let mut priors = vec![0.0; unsafe { region_picker_priors_length(ploidy) }];
         let (t, p) = (table.as_mut_ptr(), priors.as_mut_ptr());
-        unsafe { region_picker_fill_tables(t, table.len(), p, priors.len(), 10, ploidy, 1e-3, 0.01, 30, 1.0, false) };
+        assert_eq!(unsafe { region_picker_fill_tables(t, table.len(), p, priors.len(), 10, ploidy, 1e-3, 0.01, 30, 1.0, false) }, 0);
         Self { ploidy, table, priors }
     }
 
@@ -67,8 +67,8 @@ impl Profile {
             region_picker_make(numbers.as_mut_ptr(), 0, contig_len, distance, THRESHOLD, 50, 17.0, true, full.as_mut_ptr(), 101, narrow.as_mut_ptr(), 101)
         };
         assert_eq!(made, 0);
-        let n = unsafe { region_picker_kernel(kernel.as_mut_ptr(), 101, numbers[3], 50, full.as_ptr(), 101, narrow.as_ptr(), 101) };
-        kernel.truncate(n);
+        assert_eq!(unsafe { region_picker_kernel(kernel.as_mut_ptr(), 101, numbers[3], 50, full.as_ptr(), 101, narrow.as_ptr(), 101) }, 0);
+        kernel.truncate(2 * numbers[3] as usize + 1);
         Self { numbers, kernel, cells: vec![0.0; 4096] }
     }
 

@@ -1,8 +1,8 @@
 //! The part behind a profile and a scorer that own what they lend.
 
 use crate::region_picker::{
-    region_picker_add, region_picker_fill_tables, region_picker_kernel, region_picker_make, region_picker_pop, region_picker_score,
-    region_picker_table_length,
+    region_picker_add, region_picker_fill_tables, region_picker_kernel, region_picker_make, region_picker_pop, region_picker_priors_length,
+    region_picker_score, region_picker_table_length,
 };
 
 /// A refusal's number.
@@ -28,9 +28,10 @@ pub struct Score {
 impl Scorer {
     pub fn new() -> Self {
         let mut table = vec![0.0; unsafe { region_picker_table_length(PLOIDY) }];
-        let mut priors = vec![0.0; usize::from(PLOIDY) + 1];
+        let mut priors = vec![0.0; unsafe { region_picker_priors_length(PLOIDY) }];
         let (t, p) = (table.as_mut_ptr(), priors.as_mut_ptr());
-        unsafe { region_picker_fill_tables(t, table.len(), p, priors.len(), 10, PLOIDY, 0.001, 0.01, 30, 1.0, false) };
+        let filled = unsafe { region_picker_fill_tables(t, table.len(), p, priors.len(), 10, PLOIDY, 0.001, 0.01, 30, 1.0, false) };
+        assert_eq!(filled, 0, "the settings are in range, and the tables have their lengths");
         Self { table, priors }
     }
 
@@ -57,8 +58,8 @@ impl Profile {
         let (mut full, mut narrow, mut kernel) = (vec![0.0; n], vec![0.0; n], vec![0.0; n]);
         #[rustfmt::skip]
         answer(unsafe { region_picker_make(numbers.as_mut_ptr(), 0, contig_length, distance, THRESHOLD, max_filter, 17.0, true, full.as_mut_ptr(), n, narrow.as_mut_ptr(), n) })?;
-        let filled = unsafe { region_picker_kernel(kernel.as_mut_ptr(), n, numbers[3], max_filter, full.as_ptr(), n, narrow.as_ptr(), n) };
-        kernel.truncate(filled);
+        answer(unsafe { region_picker_kernel(kernel.as_mut_ptr(), n, numbers[3], max_filter, full.as_ptr(), n, narrow.as_ptr(), n) })?;
+        kernel.truncate(2 * numbers[3] as usize + 1);
         Ok(Self { numbers, kernel, cells: vec![0.0; cells] })
     }
 

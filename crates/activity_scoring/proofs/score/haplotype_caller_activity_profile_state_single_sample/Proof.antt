@@ -1,7 +1,7 @@
 -- `haplotype_caller_activity_profile_state_single_sample` meets its contract: the score without tables.
 use borrow.Author.Needs.{needs}
 use mathlib.Core.Path.{_∙_}
-use Rattle.activity_scoring.specs.Tables.{score-none}
+use Rattle.activity_scoring.specs.Tables.{score-zeros}
 use Rattle.activity_scoring.proofs.score.haplotype_caller_activity_profile_state_single_sample.Statement.{statement}
 use Rattle.activity_scoring.proofs.score.haplotype_caller_activity_profile_state_single_sample.Tie as tie
 
@@ -17,7 +17,7 @@ haplotype-caller-activity-profile-state-by-tables-requires c κs = search needs
 returns : tie.Need-returns
 returns c =
     let a = c .before .before .before .args in
-    c .haplotype-caller-activity-profile-state-by-tables .ensures ∙ score-none (a .params) (a .contig) (a .pos) (a .pile .now)
+    c .haplotype-caller-activity-profile-state-by-tables .ensures ∙ score-zeros (a .params) 0 0 (a .contig) (a .pos) (a .pile .now)
 
 pub haplotype-caller-activity-profile-state-single-sample-spec : {M : Type 1} → statement M
 haplotype-caller-activity-profile-state-single-sample-spec =

@@ -2,7 +2,6 @@
 use borrow.Author.Needs.{needs}
 use native.Mathlib.Omega.{arith}
 use Rattle.contribution_table.proofs.Rows.{in-row, row-small}
-use Rattle.contribution_table.specs.Table.{fits}
 use Rattle.contribution_table.proofs.likelihoods.place_of.Statement.{statement}
 use Rattle.contribution_table.proofs.likelihoods.place_of.Tie as tie
 

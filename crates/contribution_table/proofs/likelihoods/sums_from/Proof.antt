@@ -11,10 +11,10 @@ use Rattle.contribution_table.proofs.likelihoods.sums_from.Statement.{s
 use Rattle.contribution_table.proofs.likelihoods.sums_from.Tie as tie
 
 abbrev Inv-loop : tie.InvT-loop
-Inv-loop pile params table i row sums₀ k₀ sums k = (k ≤ length pile) × (sums .count ≤ k) × (foldl (allTaken table params i) sums (drop k pile) ≡ sumsFrom table params pile i)
+Inv-loop pile params rows i row sums₀ k₀ sums k = (k ≤ length pile) × (sums .count ≤ k) × (foldl (allTaken rows params i) sums (drop k pile) ≡ sumsFrom rows params pile i)
 
 abbrev μ-loop : tie.MeasureT-loop
-μ-loop pile params table i row sums₀ k₀ sums k = length pile - k
+μ-loop pile params rows i row sums₀ k₀ sums k = length pile - k
 
 row-length-requires : tie.Need-row-length-requires Inv-loop μ-loop
 row-length-requires c κs = search needs
@@ -48,7 +48,7 @@ loop-again c =
     let at = c .before .before .before in
     let a = at .before .before .before .before .before .args in
     let w = getD (a .pile .now) (at .loop .k) 0 in
-    (omega arith, rw (c .with-word .ensures) (omega (arith, counted-le (a .params) (at .loop .sums .count) w)), rw (c .with-word .ensures) (foldl-turn (allTaken (a .table .now) (a .params) (a .i)) (at .loop .sums) (a .pile .now) (at .loop .k) 0 (omega arith) ∙ at .loop .inv .2))
+    (omega arith, rw (c .with-word .ensures) (omega (arith, counted-le (a .params) (at .loop .sums .count) w)), rw (c .with-word .ensures) (foldl-turn (allTaken (a .rows .now) (a .params) (a .i)) (at .loop .sums) (a .pile .now) (at .loop .k) 0 (omega arith) ∙ at .loop .inv .2))
 
 returns : tie.Need-returns Inv-loop μ-loop
 returns c = sym (foldl-end (allTaken _ _ _) _ _ _ (c .loop-test .left)) ∙ c .before .loop .inv .2

@@ -5,7 +5,6 @@ use lib.Ieee.{nan}
 use lib.ListN.{length, length-set}
 use mathlib.Core.Path.{_∙_, _≡_, ap, refl, sym}
 use native.Mathlib.Omega.{arith}
-use Rattle.contribution_table.proofs.Rows.{fits-row, fits-table}
 use Rattle.contribution_table.specs.Sums.{count-in-four, sum-in-four, sumIn, sumsFrom}
 use Rattle.contribution_table.specs.Table.{sumAt}
 use Rattle.contribution_table.specs.declared.Sums.{Sums}
@@ -16,10 +15,10 @@ use Rattle.contribution_table.proofs.likelihoods.write_sums.Statement.{
 use Rattle.contribution_table.proofs.likelihoods.write_sums.Tie as tie
 
 abbrev Inv-loop : tie.InvT-loop
-Inv-loop gl₀ pile params table sums₀ i₀ gl sums i = (i ≤ length gl₀) × (length gl ≡ length gl₀) × (gl ≡ upTo (fixed (sumAt table params pile)) i gl₀) × (0 < i % 4 → sums ≡ sumsFrom table params pile (i / 4 * 4)) × (0 < i → sums .count ≡ foldl (counted params) 0 pile)
+Inv-loop gl₀ pile params rows sums₀ i₀ gl sums i = (i ≤ length gl₀) × (length gl ≡ length gl₀) × (gl ≡ upTo (fixed (sumAt rows params pile)) i gl₀) × (0 < i % 4 → sums ≡ sumsFrom rows params pile (i / 4 * 4)) × (0 < i → sums .count ≡ foldl (counted params) 0 pile)
 
 abbrev μ-loop : tie.MeasureT-loop
-μ-loop gl₀ pile params table sums₀ i₀ gl sums i = length gl₀ - i
+μ-loop gl₀ pile params rows sums₀ i₀ gl sums i = length gl₀ - i
 
 no-sums-requires : tie.Need-no-sums-requires Inv-loop μ-loop
 no-sums-requires c κs = search needs
@@ -31,9 +30,7 @@ sums-at-requires : tie.Need-sums-at-requires Inv-loop μ-loop
 sums-at-requires c κs =
     let at = c .before in
     let start = at .before .before .before .before .before in
-    let a = start .args in
-    let f = fits-row (length (a .table .now)) (a .params) (length (a .gl .now)) (start .pre) in
-    (omega (arith, f), fits-table (length (a .table .now)) (a .params) (length (a .gl .now)) (start .pre), at .loop .inv .3)
+    (omega (arith, start .pre .0), start .pre .1, at .loop .inv .3)
 
 sum-in-requires : tie.Need-sum-in-requires Inv-loop μ-loop
 sum-in-requires c κs = search needs
@@ -55,12 +52,12 @@ loop-again c =
     let at = c .before .before .before in
     let a = at .before .before .before .before .before .args in
     let now = c .before .sums-at .ensures in
-    let e : c .sum-in .result ≡ sumAt (a .table .now) (a .params) (a .pile .now) (at .loop .i) = c .sum-in .ensures ∙ ap (λ (r : Sums). sumIn r (at .loop .i % 4)) now ∙ sum-in-four (a .table .now) (a .params) (a .pile .now) (at .loop .i) in (
+    let e : c .sum-in .result ≡ sumAt (a .rows .now) (a .params) (a .pile .now) (at .loop .i) = c .sum-in .ensures ∙ ap (λ (r : Sums). sumIn r (at .loop .i % 4)) now ∙ sum-in-four (a .rows .now) (a .params) (a .pile .now) (at .loop .i) in (
       omega arith,
       simp length-set (at .loop .inv .1),
-      upTo-put (fixed (sumAt (a .table .now) (a .params) (a .pile .now))) (at .loop .i) _ _ nan _ (at .loop .inv .2) (omega arith) e,
+      upTo-put (fixed (sumAt (a .rows .now) (a .params) (a .pile .now))) (at .loop .i) _ _ nan _ (at .loop .inv .2) (omega arith) e,
       λ h. let same : (at .loop .i + 1) / 4 * 4 ≡ at .loop .i / 4 * 4 = omega (arith, h) in rw same now,
-      λ h. ap (λ (r : Sums). r .count) now ∙ count-in-four (a .table .now) (a .params) (a .pile .now) (at .loop .i / 4 * 4),
+      λ h. ap (λ (r : Sums). r .count) now ∙ count-in-four (a .rows .now) (a .params) (a .pile .now) (at .loop .i / 4 * 4),
     )
 
 same-length : tie.Need-same-length Inv-loop μ-loop

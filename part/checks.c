@@ -1,0 +1,95 @@
+/* Calls of the part that a maker may get wrong, and what they answer: tables that are stale, unfilled, short or long, kernels without room, NULL with a length
+ * of 0. part/examples.sh runs it. Prints each answer that is not the one that part/region_picker.h promises, and then how many are. */
+#include "region_picker.h"
+#include <stdio.h>
+#include <string.h>
+
+#define KERNEL 101
+#define LONGEST 52227 /* the table of ploidy 100 */
+
+static int right, wrong;
+
+static void check(const char *what, bool is_so) {
+    if (is_so) {
+        right++;
+    } else {
+        wrong++;
+        printf("not so: %s\n", what);
+    }
+}
+
+/* three alternate bases of quality 36 and one reference base: an active locus */
+static const uint32_t pile[4] = {0x49100000, 0x49100000, 0x49100000, 0x49000000};
+
+/* a score's three numbers, the probability as its bits */
+typedef struct {
+    uint32_t answer;
+    double activity[2];
+    uint32_t evidence[2];
+} score;
+
+static score scored(const double *table, size_t n, const double *priors, size_t m, uint8_t ploidy, double heterozygosity, double deviation, double multiplier) {
+    score s;
+    memset(&s, 0, sizeof s);
+    s.answer = region_picker_score(1, pile, 4, table, n, priors, m, 10, ploidy, heterozygosity, deviation, 30, multiplier, false, s.activity, s.evidence);
+    return s;
+}
+
+static bool same(score a, score b) { return memcmp(&a, &b, sizeof a) == 0; }
+
+static double table[LONGEST], priors[104], before[LONGEST];
+
+static uint32_t fill(size_t n, size_t m, uint8_t ploidy, double heterozygosity, double deviation, double multiplier) {
+    return region_picker_fill_tables(table, n, priors, m, 10, ploidy, heterozygosity, deviation, 30, multiplier, false);
+}
+
+static void tables(void) {
+    const size_t n2 = region_picker_table_length(2), m2 = region_picker_priors_length(2), n4 = region_picker_table_length(4), m4 = region_picker_priors_length(4);
+    const score plain = scored(NULL, 0, NULL, 0, 2, 0.001, 0.01, 1.0);
+    check("the locus is active", plain.answer == 0 && plain.activity[0] > 0.9);
+    check("the lengths of ploidy 2", n2 == 2051 && m2 == 6);
+    check("the longest table", region_picker_table_length(100) == LONGEST && region_picker_priors_length(100) == 104);
+    check("zeros are not read", same(plain, scored(table, n2, priors, m2, 2, 0.001, 0.01, 1.0)));
+    check("filling is granted", fill(n2, m2, 2, 0.001, 0.01, 1.0) == 0);
+    check("by the tables", same(plain, scored(table, n2, priors, m2, 2, 0.001, 0.01, 1.0)));
+    check("by the table alone", same(plain, scored(table, n2, NULL, 0, 2, 0.001, 0.01, 1.0)));
+    check("by the priors alone", same(plain, scored(NULL, 0, priors, m2, 2, 0.001, 0.01, 1.0)));
+    check("a longer table", same(plain, scored(table, n4, priors, m4, 2, 0.001, 0.01, 1.0)));
+    check("another ploidy", same(scored(NULL, 0, NULL, 0, 3, 0.001, 0.01, 1.0), scored(table, n2, priors, m2 + 1, 3, 0.001, 0.01, 1.0)));
+    check("another heterozygosity", same(scored(NULL, 0, NULL, 0, 2, 0.1, 0.01, 1.0), scored(table, n2, priors, m2, 2, 0.1, 0.01, 1.0)));
+    check("another deviation", same(scored(NULL, 0, NULL, 0, 2, 0.001, 0.1, 1.0), scored(table, n2, priors, m2, 2, 0.001, 0.1, 1.0)));
+    check("another multiplier", same(scored(NULL, 0, NULL, 0, 2, 0.001, 0.01, 0.125), scored(table, n2, priors, m2, 2, 0.001, 0.01, 0.125)));
+    check("filled for ploidy 4", fill(n4, m4, 4, 0.001, 0.01, 1.0) == 0);
+    check("read at ploidy 2, whole", same(plain, scored(table, n4, priors, m4, 2, 0.001, 0.01, 1.0)));
+    check("read at ploidy 2, the front", same(plain, scored(table, n2, priors, m2, 2, 0.001, 0.01, 1.0)));
+    memcpy(before, table, sizeof table);
+    check("a ploidy of 0 is refused 1", fill(LONGEST, 104, 0, 0.001, 0.01, 1.0) == 1);
+    check("a short table is refused 2", fill(n2 - 1, m2, 2, 0.5, 0.5, 2.0) == 2);
+    check("short priors are refused 2", fill(n2, m2 - 1, 2, 0.5, 0.5, 2.0) == 2);
+    check("no tables are refused 2", region_picker_fill_tables(NULL, 0, NULL, 0, 10, 2, 0.001, 0.01, 30, 1.0, false) == 2);
+    check("a refused filling writes nothing", memcmp(before, table, sizeof table) == 0);
+    check("a longer slice is filled in front", fill(LONGEST, 104, 2, 0.001, 0.01, 1.0) == 0 && same(plain, scored(table, n2, priors, m2, 2, 0.001, 0.01, 1.0)));
+}
+
+static void kernels(void) {
+    static double full[KERNEL], narrow[KERNEL], kernel[KERNEL];
+    uint32_t profile[REGION_PICKER_PROFILE];
+    uint64_t clips = 7;
+    check("a making", region_picker_make(profile, 0, 1000, 50, 0.002, 50, 17.0, false, full, KERNEL, narrow, KERNEL) == 0 && profile[REGION_PICKER_FILTER_SIZE] == 50);
+    kernel[0] = 7.5;
+    check("a short target", region_picker_kernel(kernel, KERNEL - 1, 50, 50, full, KERNEL, narrow, KERNEL) == 2 && kernel[0] == 7.5);
+    check("a short full buffer", region_picker_kernel(kernel, KERNEL, 50, 50, full, 3, narrow, KERNEL) == 2 && kernel[0] == 7.5);
+    check("a short narrow buffer", region_picker_kernel(kernel, KERNEL, 50, 50, full, KERNEL, NULL, 0) == 2 && kernel[0] == 7.5);
+    check("a kernel", region_picker_kernel(kernel, KERNEL, 50, 50, full, KERNEL, narrow, KERNEL) == 0 && memcmp(kernel, full, sizeof kernel) == 0);
+    check("an add without cells", region_picker_add(profile, 0.002, 0, 1, 0.0, 0.0, false, 0, kernel, KERNEL, NULL, 0) == 10 && profile[REGION_PICKER_COUNT] == 0);
+    check("an add without a kernel", region_picker_add(profile, 0.002, 0, 1, 0.0, 0.0, false, 0, NULL, 0, full, KERNEL) == 5);
+    check("no CIGAR words", region_picker_count_clips(NULL, 0, NULL, 0, &clips) == 0 && clips == 0);
+    check("an empty pile", region_picker_score(1, NULL, 0, NULL, 0, NULL, 0, 10, 2, 0.001, 0.01, 30, 1.0, false, full, profile) == 0 && full[0] == 0.0);
+}
+
+int main(void) {
+    tables();
+    kernels();
+    printf("%d right, %d wrong\n", right, wrong);
+    return wrong != 0;
+}
