@@ -1,12 +1,15 @@
 // The region program: document 01's chapter of that name. It reads words from standard input and writes lines to
-// standard output, in constant memory.
+// standard output, in constant memory. What it prints is region_run's: here blocks are read, handed over and written.
 use region_program::CELLS;
 use region_program::KERNEL;
 use region_program::PILE;
 use region_program::PRIORS;
 use region_program::TABLE;
+use region_run::RegionRun;
 use standard_io::BLOCK;
+use standard_io::Input;
 use standard_io::WORDS;
+ghost use mathlib.Core.Path.{_≡_};
 
 fn main() {
     let mut table = [0.0f64; TABLE];
@@ -35,7 +38,7 @@ fn run(
     while turns > 0 {
         let input = standard_io::read_words(kept, bytes, &mut words);
         kept = input.kept();
-        r = region_run::turn(
+        r = turn(
             r,
             input,
             &words,
@@ -51,4 +54,74 @@ fn run(
         }
         turns -= 1;
     }
+}
+
+// Feeds what a reading brought, or ends the run, and writes the text of it.
+fn turn(
+    r: RegionRun,
+    input: Input,
+    words: &[u32; WORDS],
+    text: &mut [u8; BLOCK],
+    pile: &mut [u32; PILE],
+    kernel: &mut [f64; KERNEL],
+    cells: &mut [f64; CELLS],
+    table: &[f64; TABLE],
+    priors: &[f64; PRIORS],
+) -> RegionRun {
+    match input {
+        Input::Words { count, kept: _ } => {
+            let block = first(words, count);
+            feed_all(r, block, text, pile, kernel, cells, table, priors)
+        }
+        Input::End { remainder } => {
+            let ended = region_run::end(r, remainder, text, pile, kernel, cells, table, priors);
+            written(ended, text)
+        }
+        Input::Failed => {
+            let mut s = r;
+            s.over = true;
+            s
+        }
+    }
+}
+
+// Feeds the words of a block from the first on, and writes their text, as often as it fills its buffer.
+fn feed_all(
+    r: RegionRun,
+    words: &[u32],
+    text: &mut [u8; BLOCK],
+    pile: &mut [u32; PILE],
+    kernel: &mut [f64; KERNEL],
+    cells: &mut [f64; CELLS],
+    table: &[f64; TABLE],
+    priors: &[f64; PRIORS],
+) -> RegionRun {
+    let mut s = r;
+    s.at = 0;
+    while s.at < words.len() {
+        let fed = region_run::feed(s, words, text, pile, kernel, cells, table, priors);
+        s = written(fed, text);
+        if s.over {
+            return s;
+        }
+    }
+    s
+}
+
+// The run once its text is written. A failure ends it: nothing is written behind it.
+fn written(r: RegionRun, text: &[u8; BLOCK]) -> RegionRun
+    ensures { λ s. ⌜ (s .at ≡ r .at) × (s .stream ≡ r .stream) ⌝ }
+{
+    let could = standard_io::write_front(text, r.used);
+    let mut s = r;
+    s.over = s.over | !could;
+    s
+}
+
+// The first n words, or all where there are fewer.
+fn first<'a>(words: &'a [u32], n: usize) -> &'a [u32] {
+    if n <= words.len() {
+        return &words[..n];
+    }
+    words
 }

@@ -1,1 +1,2 @@
 pub mod Nearing
+pub mod Printing

@@ -18,10 +18,10 @@ from-earlier (FoundLine r) s u t at later next h e n = omega arith
 from-earlier (FoundRefused y i) s u t at later next h e n = tt
 
 pub step-ends : (s : RegionStream) (step : Step) (at : ℕ) → StepEnds s step → Ends s at (fedBy step at)
-step-ends s (Next t) at e = record { near = omega arith; nearer = omega (arith, acts-few t) }
-step-ends s (Again t) at e = record { near = omega arith; nearer = omega (arith, e) }
-step-ends s (Line r t) at e = record { near = omega arith; nearer = omega (arith, e) }
-step-ends s (Refused y i t) at e = record { near = omega arith; nearer = tt }
+step-ends s (Next t) at e = record { on = omega arith; near = omega arith; nearer = omega (arith, acts-few t) }
+step-ends s (Again t) at e = record { on = omega arith; near = omega arith; nearer = omega (arith, e) }
+step-ends s (Line r t) at e = record { on = omega arith; near = omega arith; nearer = omega (arith, e) }
+step-ends s (Refused y i t) at e = record { on = omega arith; near = omega arith; nearer = tt }
 
 pub ends-earlier : (s u : RegionStream) (at : ℕ) (r : Fed) → actsLeft u ≤ actsLeft s → Ends u at r → Ends s at r
-ends-earlier s u at r e n = record { near = n .near; nearer = from-earlier (r .found) s u (r .stream) at at (r .at) (omega arith) e (n .nearer) }
+ends-earlier s u at r e n = record { on = n .on; near = n .near; nearer = from-earlier (r .found) s u (r .stream) at at (r .at) (omega arith) e (n .nearer) }

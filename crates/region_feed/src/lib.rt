@@ -11,10 +11,14 @@ use region_program::RegionStream;
 use region_program::Step;
 use region_program::TABLE;
 ghost use mathlib.Core.Path.{_≡_};
+ghost use mathlib.Core.List.{[], _∷_};
 ghost use Prim.Native.Nat.{_+_, _^_, _<_};
-ghost use lib.ListN.{length};
+ghost use lib.ListN.{length, drop};
 ghost use Rattle.pileup_words.specs.Events.{lastEvent};
-ghost use Rattle.region_feed.specs.Feed.{fedBy, foundIn, Closer, Ends};
+ghost use Rattle.region_program.specs.Feeding.{FedBy};
+ghost use Rattle.region_program.specs.Stream.{seen};
+ghost use Rattle.region_program.specs.Tables.{tableScore};
+ghost use Rattle.region_feed.specs.Feed.{fedBy, foundIn, closing, Closer, Ends, Prints, PrintsWord};
 
 // What comes of a word, or of the end of the input.
 pub enum Found {
@@ -44,6 +48,9 @@ pub fn advance(
     priors: &[f64; PRIORS],
 ) -> Fed
     ensures { λ r. ⌜ Closer s (length (now (words .entry))) at r ⌝ }
+    ensures { λ r. ⌜ Prints (tableScore (now (table .entry)) (now (priors .entry))) (r .found)
+        (seen s (now (pile .entry)) (now (kernel .entry)) (now (cells .entry))) (drop at (now (words .entry)))
+        (seen (r .stream) (now (pile .exit)) (now (kernel .exit)) (now (cells .exit))) (drop (r .at) (now (words .entry))) ⌝ }
 {
     if at < words.len() {
         let observed = observation_runs::observations(s, &words[at..], pile);
@@ -79,6 +86,9 @@ fn act_on(
 ) -> Fed
     requires { ⌜ at + 1 < 2 ^ 64 ⌝ }
     ensures { λ r. ⌜ Ends s at r ⌝ }
+    ensures { λ r. ⌜ PrintsWord (tableScore (now (table .entry)) (now (priors .entry))) word at r
+        (seen s (now (pile .entry)) (now (kernel .entry)) (now (cells .entry)))
+        (seen (r .stream) (now (pile .exit)) (now (kernel .exit)) (now (cells .exit))) ⌝ }
 {
     let event = pileup_words::event_of(word);
     let step = region_stream::act(event, s, pile, kernel, cells, table, priors);
@@ -119,7 +129,10 @@ pub fn finish(
     cells: &mut [f64; CELLS],
     table: &[f64; TABLE],
     priors: &[f64; PRIORS],
-) -> Found {
+) -> Found
+    ensures { λ r. ⌜ FedBy (tableScore (now (table .entry)) (now (priors .entry)))
+        (seen s (now (pile .entry)) (now (kernel .entry)) (now (cells .entry))) (lastEvent remainder ∷ []) (closing r) ⌝ }
+{
     let event = last_event(remainder);
     let step = region_stream::act(event, s, pile, kernel, cells, table, priors);
     let Step::Again(t) = step else {

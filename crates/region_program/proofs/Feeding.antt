@@ -7,8 +7,9 @@ use native.Mathlib.Omega.{arith}
 use lib.ListN.{length}
 use Rattle.pileup_words.specs.declared.StreamEvent.{StreamEvent}
 use Rattle.activity_profile.specs.declared.ActivityProfileRegion.{ActivityProfileRegion}
-use Rattle.region_program.specs.Program.{Reading, atLoci, Answer, goes, again, line, stops, act, Printed, printed, refusedAt, finished, after, acts, runEvents, pileScore}
-use Rattle.region_program.specs.Feeding.{Fed, atLast, onward, onceMore, printing, halted}
+use Rattle.region_program.specs.Program.{Reading, atLoci, Answer, goes, again, line, stops, act, Printed, printed, refusedAt, finished, after, acts, runEvents, Scoring, pileScore}
+use Rattle.region_program.specs.Feeding.{FedBy, Fed, atLast, onward, onceMore, printing, halted}
+use Rattle.region_program.specs.Tables.{act-same}
 use Rattle.region_program.proofs.Acts.{again-ends, line-pops}
 
 -- ---- acting on an event until it is done
@@ -122,3 +123,11 @@ module _ (e : StreamEvent) (es : List StreamEvent) (later : (s : Reading) → (p
 pub feeding-ends : (events : List StreamEvent) (s : Reading) → (p : Printed) × Fed s events p
 feeding-ends [] s = (printed [] finished, atLast s)
 feeding-ends (e ∷ es) s = fed-first e es (λ t. feeding-ends es t) s
+
+-- A scoring that agrees with document 01's on every pile prints the same.
+pub fed-same : (scoring : Scoring) → ((p : ℕ) (words : List ℕ) → scoring p words ≡ pileScore p words) → (s : Reading) (es : List StreamEvent) (p : Printed) → FedBy scoring s es p → Fed s es p
+fed-same scoring same _ _ _ (atLast s) = atLast s
+fed-same scoring same _ _ _ (onward s t e es p h f) = onward s t e es p (sym (act-same scoring same e s) ∙ h) (fed-same scoring same t es p f)
+fed-same scoring same _ _ _ (onceMore s t e es p h f) = onceMore s t e es p (sym (act-same scoring same e s) ∙ h) (fed-same scoring same t (e ∷ es) p f)
+fed-same scoring same _ _ _ (printing s t e es r p h f) = printing s t e es r p (sym (act-same scoring same e s) ∙ h) (fed-same scoring same t (e ∷ es) p f)
+fed-same scoring same _ _ _ (halted s t e es n i h) = halted s t e es n i (sym (act-same scoring same e s) ∙ h)

@@ -19,9 +19,9 @@ use Rattle.activity_profile.specs.declared.ActivityProfileRegion.{ActivityProfi
 use Rattle.activity_scoring.specs.Score.{maxDepth}
 use Rattle.region_program.specs.declared.RegionStream.{RegionStream}
 use Rattle.region_program.specs.declared.Phase.the-variants.{Pile}
-use Rattle.region_program.specs.Program.{Scoring, pileScore, Reading, inPile, Answer, goes, again, line, stops, next, moved, deepened, withinPile, actAt, actBy, act, Printed}
+use Rattle.region_program.specs.Program.{Scoring, Reading, inPile, Answer, goes, again, line, stops, next, moved, deepened, withinPile, actAt, actBy, Printed}
 use Rattle.region_program.specs.Stream.{seen, PILE, kept}
-use Rattle.region_program.specs.Feeding.{Fed, onward}
+use Rattle.region_program.specs.Feeding.{FedBy, onward}
 use Rattle.region_program.specs.Run.{thenAct, actedOn, Kept, keptMore, keptAll, runAt}
 
 -- ---- one observation
@@ -108,14 +108,14 @@ stop-stays scoring n i s [] = refl
 stop-stays scoring n i s (w ∷ words) = stop-stays scoring n i s words
 
 -- Words that were done one after the other may be taken at once: the caller prints the same.
-pub fed-run : (remainder : Bool) (s t : Reading) (run words : List ℕ) (p : Printed) → goes t ≡ actedOn pileScore s run → Fed t (eventsOf words remainder) p → Fed s (eventsOf (run ++ words) remainder) p
+pub fed-run : (scoring : Scoring) (remainder : Bool) (s t : Reading) (run words : List ℕ) (p : Printed) → goes t ≡ actedOn scoring s run → FedBy scoring t (eventsOf words remainder) p → FedBy scoring s (eventsOf (run ++ words) remainder) p
 unfolding foldl eventsOf
-fed-run remainder s t [] words p e f = let same : t ≡ s = cc in subst (λ (x : Reading). Fed x (eventsOf words remainder) p) same f
-fed-run remainder s t (w ∷ run) words p e f = go (act (eventOf w) s) refl (λ u h. fed-run remainder u t run words p h f)
+fed-run scoring remainder s t [] words p e f = let same : t ≡ s = cc in subst (λ (x : Reading). FedBy scoring x (eventsOf words remainder) p) same f
+fed-run scoring remainder s t (w ∷ run) words p e f = go (actBy scoring (eventOf w) s) refl (λ u h. fed-run scoring remainder u t run words p h f)
   where
-    go : (a : Answer) → act (eventOf w) s ≡ a → ((u : Reading) → goes t ≡ actedOn pileScore u run → Fed u (eventsOf (run ++ words) remainder) p)
-        → Fed s (eventOf w ∷ eventsOf (run ++ words) remainder) p
-    go (goes u) h rest = onward s u (eventOf w) (eventsOf (run ++ words) remainder) p h (rest u (e ∙ ap (λ (a : Answer). foldl (thenAct pileScore) a run) h))
-    go (again u) h rest = absurd (let g : goes t ≡ again u = e ∙ ap (λ (a : Answer). foldl (thenAct pileScore) a run) h ∙ again-stays pileScore u run in let z : _≡_ {A = ℕ} 0 1 = cc in omega arith)
-    go (line r u) h rest = absurd (let g : goes t ≡ line r u = e ∙ ap (λ (a : Answer). foldl (thenAct pileScore) a run) h ∙ line-stays pileScore r u run in let z : _≡_ {A = ℕ} 0 1 = cc in omega arith)
-    go (stops n i u) h rest = absurd (let g : goes t ≡ stops n i u = e ∙ ap (λ (a : Answer). foldl (thenAct pileScore) a run) h ∙ stop-stays pileScore n i u run in let z : _≡_ {A = ℕ} 0 1 = cc in omega arith)
+    go : (a : Answer) → actBy scoring (eventOf w) s ≡ a → ((u : Reading) → goes t ≡ actedOn scoring u run → FedBy scoring u (eventsOf (run ++ words) remainder) p)
+        → FedBy scoring s (eventOf w ∷ eventsOf (run ++ words) remainder) p
+    go (goes u) h rest = onward s u (eventOf w) (eventsOf (run ++ words) remainder) p h (rest u (e ∙ ap (λ (a : Answer). foldl (thenAct scoring) a run) h))
+    go (again u) h rest = absurd (let g : goes t ≡ again u = e ∙ ap (λ (a : Answer). foldl (thenAct scoring) a run) h ∙ again-stays scoring u run in let z : _≡_ {A = ℕ} 0 1 = cc in omega arith)
+    go (line r u) h rest = absurd (let g : goes t ≡ line r u = e ∙ ap (λ (a : Answer). foldl (thenAct scoring) a run) h ∙ line-stays scoring r u run in let z : _≡_ {A = ℕ} 0 1 = cc in omega arith)
+    go (stops n i u) h rest = absurd (let g : goes t ≡ stops n i u = e ∙ ap (λ (a : Answer). foldl (thenAct scoring) a run) h ∙ stop-stays scoring n i u run in let z : _≡_ {A = ℕ} 0 1 = cc in omega arith)

@@ -1,6 +1,5 @@
-// A run of the region program: blocks of words in, the text of lines and of a refusal out. No public function has a `requires`.
-use activity_profile::ActivityProfileRegion;
-use genome::Refusal;
+// A run of the region program: blocks of words in, the text of lines and of a refusal out. What a block prints is worked
+// out here, byte by byte; reading and writing are the program's. No public function has a `requires`.
 use region_feed::Found;
 use region_program::CELLS;
 use region_program::KERNEL;
@@ -9,65 +8,40 @@ use region_program::PRIORS;
 use region_program::RegionStream;
 use region_program::TABLE;
 use region_text::TEXT;
-use standard_io::BLOCK;
-use standard_io::Input;
-use standard_io::Output;
-use standard_io::WORDS;
 ghost use mathlib.Core.Path.{_≡_};
-ghost use Prim.Native.Nat.{_<_};
-ghost use lib.ListN.{length};
-ghost use Rattle.region_run.specs.Run.{Onward};
+ghost use mathlib.Core.Bool.{false};
+ghost use mathlib.Core.List.{_++_};
+ghost use Prim.Native.Nat.{_+_, _≤_, _<_};
+ghost use lib.ListN.{length, take, drop};
+ghost use Rattle.region_program.specs.Stream.{seen, newStream};
+ghost use Rattle.region_program.specs.Tables.{tableScore};
+ghost use Rattle.region_run.specs.Run.{foundText, isOver, Steps, Feeds, Finishes, BLOCK as blockOf, ROOM as roomOf};
 
-// The stream, the place of its next word in the block, the text that waits, and whether the run is over.
+// The bytes of a block's text.
+pub const BLOCK: usize = 65536;
+
+// With so many in use there is room for one more line.
+const ROOM: usize = 65431;
+
+// The stream, the place of its next word in the block, how many bytes of text wait to be written, and whether the run is over.
 pub struct RegionRun {
     pub stream: RegionStream,
     pub at: usize,
-    pub output: Output,
+    pub used: usize,
     pub over: bool,
 }
 
 // A run before its first word.
 pub fn start() -> RegionRun
-    ensures { λ r. ⌜ r .at ≡ 0 ⌝ }
+    ensures { λ r. ⌜ r ≡ record { stream = newStream; at = 0; used = 0; over = false } ⌝ }
 {
     let stream = region_stream::new_stream();
-    let output = Output::new();
-    run_at(stream, 0, output, false)
+    run_at(stream, 0, 0, false)
 }
 
-// Feeds what a reading brought, or ends the run, and writes the text of what comes of it.
-pub fn turn(
-    r: RegionRun,
-    input: Input,
-    words: &[u32; WORDS],
-    text: &mut [u8; BLOCK],
-    pile: &mut [u32; PILE],
-    kernel: &mut [f64; KERNEL],
-    cells: &mut [f64; CELLS],
-    table: &[f64; TABLE],
-    priors: &[f64; PRIORS],
-) -> RegionRun {
-    match input {
-        Input::Words { count, kept: _ } => {
-            let front = first(words, count);
-            let fed = feed(r, front, text, pile, kernel, cells, table, priors);
-            flushed(fed, text)
-        }
-        Input::End { remainder } => {
-            let ended = end(r, remainder, text, pile, kernel, cells, table, priors);
-            flushed(ended, text)
-        }
-        Input::Failed => {
-            os::fail(b"standard input");
-            let mut s = r;
-            s.over = true;
-            s
-        }
-    }
-}
-
-// Feeds the words of a block, until the run is over.
-fn feed(
+// Feeds the words from `at` on: until they are done, until a line might find no room, or until a refusal ends the run.
+// The text of what they print stands at the front of `text`, `used` bytes of it.
+pub fn feed(
     r: RegionRun,
     words: &[u32],
     text: &mut [u8; BLOCK],
@@ -76,10 +50,15 @@ fn feed(
     cells: &mut [f64; CELLS],
     table: &[f64; TABLE],
     priors: &[f64; PRIORS],
-) -> RegionRun {
-    let mut s = from_start(r);
+) -> RegionRun
+    ensures { λ s. ⌜ Feeds (tableScore (now (table .entry)) (now (priors .entry))) r s (now (words .entry)) (now (text .exit))
+        (seen (r .stream) (now (pile .entry)) (now (kernel .entry)) (now (cells .entry)))
+        (seen (s .stream) (now (pile .exit)) (now (kernel .exit)) (now (cells .exit))) ⌝ }
+{
+    let stream = r.stream;
+    let mut s = run_at(stream, r.at, 0, false);
     while s.at < words.len() {
-        if s.over {
+        if s.used > ROOM {
             return s;
         }
         s = step(s, words, text, pile, kernel, cells, table, priors);
@@ -87,8 +66,8 @@ fn feed(
     s
 }
 
-// The end of the input, with a remainder of bytes or without: then the run is over.
-fn end(
+// The end of the input, with a remainder of bytes or without: the run is over, and its last text stands at the front of `text`.
+pub fn end(
     r: RegionRun,
     remainder: bool,
     text: &mut [u8; BLOCK],
@@ -97,22 +76,17 @@ fn end(
     cells: &mut [f64; CELLS],
     table: &[f64; TABLE],
     priors: &[f64; PRIORS],
-) -> RegionRun {
+) -> RegionRun
+    ensures { λ s. ⌜ Finishes (tableScore (now (table .entry)) (now (priors .entry))) remainder s (now (text .exit))
+        (seen (r .stream) (now (pile .entry)) (now (kernel .entry)) (now (cells .entry))) ⌝ }
+{
     let stream = r.stream;
     let found = region_feed::finish(stream, remainder, pile, kernel, cells, table, priors);
-    let output = r.output;
-    run_at(stream, 0, printed(found, output, text), true)
+    let used = print(found, text, 0);
+    run_at(stream, r.at, used, true)
 }
 
-// The run once its text is written; a failure ends it.
-fn flushed(r: RegionRun, text: &[u8; BLOCK]) -> RegionRun {
-    let stream = r.stream;
-    let output = r.output;
-    let written = output.flush(text);
-    run_at(stream, r.at, written, r.over | written.failed)
-}
-
-// One step at the next word, and the text of what comes of it.
+// One step at the next word, and the text of what comes of it behind that of the steps before.
 fn step(
     r: RegionRun,
     words: &[u32],
@@ -123,84 +97,91 @@ fn step(
     table: &[f64; TABLE],
     priors: &[f64; PRIORS],
 ) -> RegionRun
-    requires { ⌜ r .at < length (now words) ⌝ }
-    ensures { λ s. ⌜ Onward r (length (now (words .entry))) s ⌝ }
+    requires { ⌜ (r .at < length (now words)) × (r .used ≤ roomOf) ⌝ }
+    ensures { λ s. ⌜ Steps (tableScore (now (table .entry)) (now (priors .entry))) r s (now (words .entry))
+        (now (text .entry)) (now (text .exit))
+        (seen (r .stream) (now (pile .entry)) (now (kernel .entry)) (now (cells .entry)))
+        (seen (s .stream) (now (pile .exit)) (now (kernel .exit)) (now (cells .exit))) ⌝ }
 {
     let stream = r.stream;
-    let output = r.output;
     let fed = region_feed::advance(stream, words, r.at, pile, kernel, cells, table, priors);
     let t = fed.stream;
     let found = fed.found;
-    match found {
-        Found::Nothing => run_at(t, fed.at, output, r.over),
-        Found::Line(region) => {
-            let more = line(region, output, text);
-            run_at(t, fed.at, more, r.over | more.failed)
-        }
-        Found::Refused(why, index) => {
-            let more = refusal(why, index, output, text);
-            run_at(t, words.len(), more, true)
-        }
+    let used = print(found, text, r.used);
+    if is_over(found) {
+        return run_at(t, words.len(), used, true);
     }
+    run_at(t, fed.at, used, false)
 }
 
-// What comes of the end of the input, as text.
-fn printed(found: Found, output: Output, text: &mut [u8; BLOCK]) -> Output {
-    match found {
-        Found::Nothing => output,
-        Found::Line(region) => line(region, output, text),
-        Found::Refused(why, index) => refusal(why, index, output, text),
-    }
-}
-
-fn line(region: ActivityProfileRegion, output: Output, text: &mut [u8; BLOCK]) -> Output {
-    let mut bytes = [0u8; TEXT];
-    let at = region_text::line_text(region, &mut bytes);
-    appended(output, &bytes, at, text)
-}
-
-fn refusal(why: Refusal, index: u64, output: Output, text: &mut [u8; BLOCK]) -> Output {
-    let mut bytes = [0u8; TEXT];
-    let at = region_text::refusal_text(why, index, &mut bytes);
-    appended(output, &bytes, at, text)
-}
-
-fn appended(output: Output, bytes: &[u8; TEXT], at: usize, text: &mut [u8; BLOCK]) -> Output {
-    output.append(from(bytes, at), text)
-}
-
-// The bytes from `at` on, or all where there are fewer.
-fn from<'a>(bytes: &'a [u8], at: usize) -> &'a [u8] {
-    if at <= bytes.len() {
-        return &bytes[at..];
-    }
-    bytes
-}
-
-// The run at the block's first word.
-fn from_start(r: RegionRun) -> RegionRun
-    ensures { λ s. ⌜ s .at ≡ 0 ⌝ }
-{
-    let mut s = r;
-    s.at = 0;
-    s
-}
-
-fn run_at(stream: RegionStream, at: usize, output: Output, over: bool) -> RegionRun
-    ensures { λ r. ⌜ r ≡ record { stream = stream; at = at; output = output; over = over } ⌝ }
+fn run_at(stream: RegionStream, at: usize, used: usize, over: bool) -> RegionRun
+    ensures { λ r. ⌜ r ≡ record { stream = stream; at = at; used = used; over = over } ⌝ }
 {
     RegionRun {
         stream,
         at,
-        output,
+        used,
         over,
     }
 }
 
-// The first n words, or all where there are fewer.
-fn first<'a>(words: &'a [u32], n: usize) -> &'a [u32] {
-    if n <= words.len() {
-        return &words[..n];
+// Writes the text of what is found behind the bytes in use, and answers how many are in use then.
+fn print(found: Found, text: &mut [u8; BLOCK], used: usize) -> usize
+    requires { ⌜ used ≤ roomOf ⌝ }
+    ensures { λ n. ⌜ n ≤ blockOf ⌝ }
+    ensures { λ n. ⌜ take n (now (text .exit)) ≡ take used (now (text .entry)) ++ foundText found ⌝ }
+{
+    let mut bytes = [0u8; TEXT];
+    match found {
+        Found::Nothing => used,
+        Found::Line(region) => {
+            let at = region_text::line_text(region, &mut bytes);
+            append_from(text, used, &bytes, at)
+        }
+        Found::Refused(why, index) => {
+            let at = region_text::refusal_text(why, index, &mut bytes);
+            append_from(text, used, &bytes, at)
+        }
     }
-    words
+}
+
+// Copies the bytes from `at` on behind those in use, and answers how many are in use then.
+fn append_from(text: &mut [u8; BLOCK], used: usize, bytes: &[u8; TEXT], at: usize) -> usize
+    requires { ⌜ (used ≤ roomOf) × (at ≤ 105) ⌝ }
+    ensures { λ n. ⌜ n ≤ blockOf ⌝ }
+    ensures { λ n. ⌜ take n (now (text .exit)) ≡ take used (now (text .entry)) ++ drop at (now (bytes .entry)) ⌝ }
+{
+    append(text, used, from(bytes, at))
+}
+
+fn from<'a>(bytes: &'a [u8], at: usize) -> &'a [u8]
+    requires { ⌜ at ≤ length (now bytes) ⌝ }
+    ensures { λ r. ⌜ now r ≡ drop at (now (bytes .entry)) ⌝ }
+{
+    &bytes[at..]
+}
+
+// Copies a piece behind the bytes in use, and answers how many are in use then.
+fn append(text: &mut [u8], used: usize, piece: &[u8]) -> usize
+    requires { ⌜ used + length (now piece) ≤ length (now text) ⌝ }
+    ensures { λ n. ⌜ n ≡ used + length (now (piece .entry)) ⌝ }
+    ensures { λ n. ⌜ take n (now (text .exit)) ≡ take used (now (text .entry)) ++ now (piece .entry) ⌝ }
+{
+    let mut i = 0;
+    while i < piece.len() {
+        text[used + i] = piece[i];
+        i += 1;
+    }
+    used + piece.len()
+}
+
+// Whether what is found ends the run: a refusal.
+fn is_over(found: Found) -> bool
+    ensures { λ r. ⌜ r ≡ isOver found ⌝ }
+{
+    match found {
+        Found::Nothing => false,
+        Found::Line(_) => false,
+        Found::Refused(_, _) => true,
+    }
 }

@@ -1,7 +1,7 @@
 -- The blocks of the input, and the words in them.
 use mathlib.Core.Bool.{cond}
 use mathlib.Core.List.{List}
-use Prim.Native.Nat.{ℕ, _+_, _*_, _≤_, _<_}
+use Prim.Native.Nat.{ℕ, _+_, _-_, _*_, _%_, _≤_, _<_}
 use lib.Dec.{ltb}
 use lib.ListN.{getD}
 use Rattle.standard_io.specs.declared.Input.{Input}
@@ -32,3 +32,7 @@ wordAt bytes at = getD bytes at 0 + 256 * (getD bytes (at + 1) 0 + 256 * (getD b
 -- a rule for the words of a block, of which n are read; the others keep what they hold
 abbrev pub readWord : List ℕ → ℕ → ℕ → ℕ → ℕ
 readWord bytes n k w = cond (ltb k n) (wordAt bytes (4 * k)) w
+
+-- a rule for the bytes of a block, of which n are read: those behind the last whole word come to the front, and the others keep what they hold
+abbrev pub movedByte : List ℕ → ℕ → ℕ → ℕ → ℕ
+movedByte bytes n k b = cond (ltb k (n % 4)) (getD bytes (n - n % 4 + k) 0) b

@@ -1,9 +1,10 @@
-// Standard input as little-endian words, block by block, and standard output as text that waits in a buffer: for every
-// program here. No public function has a `requires`.
+// Standard input as little-endian words, block by block, and standard output as blocks of text. A call that a signal
+// interrupts is tried again. No public function has a `requires`.
 mod reading;
 mod writing;
 
 pub use reading::read_words;
+pub use writing::write_front;
 
 // The bytes of a block.
 pub const BLOCK: usize = 65536;
@@ -18,10 +19,4 @@ pub enum Input {
     // The end of the input, and whether bytes are left over that are no whole word.
     End { remainder: bool },
     Failed,
-}
-
-// How many bytes of the buffer wait to be written, and whether a write has failed.
-pub struct Output {
-    pub used: usize,
-    pub failed: bool,
 }

@@ -2,14 +2,16 @@
 use crate::BLOCK;
 use crate::Input;
 use crate::WORDS;
+use libc::EINTR;
 use libc::STDIN_FILENO;
 ghost use mathlib.Core.Path.{_≡_};
-ghost use Prim.Native.Nat.{_+_, _*_, _/_, _≤_, _<_};
+ghost use Prim.Native.Nat.{_+_, _*_, _/_, _%_, _≤_, _<_};
 ghost use lib.ListN.{length};
 ghost use Rattle.lists.specs.Each.{each};
-ghost use Rattle.standard_io.specs.Words.{InBlock, BLOCK as blockSize, WORDS as wordCount, wordAt, readWord, keptOf};
+ghost use Rattle.standard_io.specs.Words.{InBlock, BLOCK as blockSize, WORDS as wordCount, wordAt, readWord, movedByte, keptOf};
 
-// Reads once, behind the bytes that were kept of a word, and answers the whole words that are there then.
+// Reads once, behind the bytes that were kept of a word, and answers the whole words that are there then. A failure is told
+// on standard error.
 pub fn read_words(kept: usize, bytes: &mut [u8; BLOCK], words: &mut [u32; WORDS]) -> Input
     ensures { λ r. ⌜ InBlock r ⌝ }
 {
@@ -34,8 +36,9 @@ fn read_behind(from: usize, bytes: &mut [u8], words: &mut [u32]) -> Input
     requires { ⌜ (from < 4) × (length (now bytes) ≡ blockSize) × (length (now words) ≡ wordCount) ⌝ }
     ensures { λ r. ⌜ InBlock r ⌝ }
 {
-    let got = libc::read(STDIN_FILENO, &mut bytes[from..]);
+    let got = read_once(&mut bytes[from..]);
     if got < 0 {
+        os::fail(b"standard input");
         return Input::Failed;
     }
     if got == 0 {
@@ -47,6 +50,19 @@ fn read_behind(from: usize, bytes: &mut [u8], words: &mut [u32]) -> Input
     let count = words_of(bytes, n, words);
     let rest = keep_rest(bytes, n);
     Input::Words { count, kept: rest }
+}
+
+// One read, which is tried again where a signal interrupts it before it brings a byte.
+fn read_once(bytes: &mut [u8]) -> isize {
+    let mut turns = u64::MAX;
+    while turns > 0 {
+        let got = libc::read(STDIN_FILENO, bytes);
+        if (got >= 0) | (os::errno() != EINTR) {
+            return got;
+        }
+        turns -= 1;
+    }
+    -1
 }
 
 // Reads the whole words of the first n bytes, and answers how many they are.
@@ -85,8 +101,8 @@ fn wide(byte: u8) -> u32
 // Moves the bytes behind the last whole word of the first n to the front of the block, and answers how many they are.
 fn keep_rest(bytes: &mut [u8], n: usize) -> usize
     requires { ⌜ n ≤ length (now bytes) ⌝ }
-    ensures { λ r. ⌜ r < 4 ⌝ }
-    ensures { λ _. ⌜ length (now (bytes .exit)) ≡ length (now (bytes .entry)) ⌝ }
+    ensures { λ r. ⌜ r ≡ n % 4 ⌝ }
+    ensures { λ _. ⌜ now (bytes .exit) ≡ each (movedByte (now (bytes .entry)) n) (now (bytes .entry)) ⌝ }
 {
     let rest = n % 4;
     let mut i = 0;

@@ -1,67 +1,52 @@
-// Text that waits in a buffer to be written.
+// Writing text.
 use crate::BLOCK;
-use crate::Output;
+use libc::EINTR;
 use libc::STDOUT_FILENO;
+ghost use Prim.Native.Nat.{_≤_};
+ghost use lib.ListN.{length, take};
 ghost use mathlib.Core.Path.{_≡_};
 
-impl Output {
-    pub fn new() -> Output
-        ensures { λ r. ⌜ r .used ≡ 0 ⌝ }
-    {
-        Output {
-            used: 0,
-            failed: false,
-        }
+// Writes the first n bytes of a block, or all where there are fewer, and answers whether it could. A failure is told on
+// standard error; no byte behind it is written.
+pub fn write_front(block: &[u8; BLOCK], n: usize) -> bool {
+    let written = write_all(first(block, n));
+    if !written {
+        os::fail(b"standard output");
     }
-
-    // With a text; what waits is written where there is no room left.
-    pub fn append(self, text: &[u8], buffer: &mut [u8; BLOCK]) -> Output {
-        let mut o = self;
-        let mut at = 0;
-        while at < text.len() {
-            o = with_byte(o, text[at], buffer);
-            at += 1;
-        }
-        o
-    }
-
-    // Writes what waits. A failure is told on standard error.
-    pub fn flush(self, buffer: &[u8; BLOCK]) -> Output
-        ensures { λ r. ⌜ r .used ≡ 0 ⌝ }
-    {
-        let written = write_front(buffer, self.used);
-        if !written {
-            os::fail(b"standard output");
-        }
-        Output {
-            used: 0,
-            failed: self.failed | !written,
-        }
-    }
+    written
 }
 
-// With one byte more.
-fn with_byte(o: Output, byte: u8, buffer: &mut [u8; BLOCK]) -> Output {
-    let used = o.used;
-    if used < BLOCK {
-        buffer[used] = byte;
-        return Output {
-            used: used + 1,
-            failed: o.failed,
-        };
+// Writes every byte in its order, or stops at a write that fails or takes nothing. One that a signal interrupts is tried again.
+fn write_all(bytes: &[u8]) -> bool {
+    let mut done = 0;
+    let mut turns = u64::MAX;
+    while turns > 0 {
+        if done == bytes.len() {
+            return true;
+        }
+        let got = libc::write(STDOUT_FILENO, &bytes[done..]);
+        if !may_go_on(got) {
+            return false;
+        }
+        done += io::count(got, &bytes[done..]);
+        turns -= 1;
     }
-    let flushed = o.flush(buffer);
-    buffer[0] = byte;
-    Output {
-        used: 1,
-        failed: flushed.failed,
-    }
+    false
 }
 
-// Writes the first n bytes, or all where there are fewer.
-fn write_front(buffer: &[u8], n: usize) -> bool {
-    if n <= buffer.len() {
-        return io::write_all(STDOUT_FILENO, &buffer[..n]);
+// Whether a write took something, or was interrupted before it did.
+fn may_go_on(got: isize) -> bool {
+    if got < 0 {
+        return os::errno() == EINTR;
     }
-    io::write_all(STDOUT_FILENO, buffer)
+    got > 0
+}
+
+fn first<'a>(bytes: &'a [u8], n: usize) -> &'a [u8]
+    ensures { λ r. ⌜ now r ≡ take n (now (bytes .entry)) ⌝ }
+{
+    if n <= bytes.len() {
+        return &bytes[..n];
+    }
+    bytes
 }

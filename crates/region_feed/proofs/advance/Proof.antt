@@ -1,8 +1,10 @@
--- `advance` meets its contract: the words that were taken are passed, and acting on the one behind them comes nearer.
+-- `advance` meets its contract: the words that were taken are passed, and acting on the one behind them comes nearer and prints what it answers.
 use borrow.Author.Needs.{needs}
 use native.Mathlib.Omega.{arith}
 use Prim.Native.Nat.{_+_}
 use Rattle.region_feed.proofs.Nearing.{from-earlier}
+use Rattle.region_feed.proofs.Printing.{advanced, taken-only}
+use Rattle.region_program.specs.Tables.{tableScore}
 use Rattle.region_feed.proofs.advance.Statement.{statement}
 use Rattle.region_feed.proofs.advance.Tie as tie
 
@@ -41,10 +43,13 @@ returns c =
     let taken = seen .observations .ensures in
     let o = seen .observations .result in
     let a = seen .before .before .before .before .before .args in
-    record {
-      within = λ h. omega (arith, step .near, c .before .before .before .before .before .if2 .taken);
-      nearer = λ h. from-earlier (r .found) (a .s) (o .stream) (r .stream) (a .at) (a .at + o .taken) (r .at) (omega arith) (omega (arith, taken .same-acts)) (step .nearer);
-    }
+    let scoring = tableScore (a .table .now) (a .priors .now) in (
+      record {
+        within = λ h. omega (arith, step .0 .near, c .before .before .before .before .before .if2 .taken);
+        nearer = λ h. from-earlier (r .found) (a .s) (o .stream) (r .stream) (a .at) (a .at + o .taken) (r .at) (omega arith) (omega (arith, taken .same-acts)) (step .0 .nearer);
+      },
+      advanced scoring _ _ (a .words .now) (a .at) (o .taken) (omega (arith, taken .few, seen .before .before .before .if1 .taken)) (taken .acted scoring (a .kernel .now) (a .cells .now)) _ r (c .before .before .before .before .before .if2 .taken) (step .0 .on) (step .1),
+    )
 
 fed-to-requires : tie.Need-fed-to-requires
 fed-to-requires c κs = search needs
@@ -53,13 +58,19 @@ returns-2 : tie.Need-returns-2
 returns-2 c =
     let seen = c .before .before .before .before in
     let taken = seen .observations .ensures in
-    simp (c .fed-to .ensures) (record { within = λ h. omega (arith, taken .few, seen .before .before .before .if1 .taken); nearer = λ h. omega (arith, taken .same-acts, c .before .if2 .left) })
+    let a = seen .before .before .before .before .before .args in
+    let o = seen .observations .result in
+    let scoring = tableScore (a .table .now) (a .priors .now) in
+    simp (c .fed-to .ensures) (
+      record { within = λ h. omega (arith, taken .few, seen .before .before .before .if1 .taken); nearer = λ h. omega (arith, taken .same-acts, c .before .if2 .left) },
+      taken-only scoring _ _ (a .words .now) (a .at) (o .taken) (omega (arith, taken .few, seen .before .before .before .if1 .taken)) (taken .acted scoring (a .kernel .now) (a .cells .now)),
+    )
 
 fed-to-requires-2 : tie.Need-fed-to-requires-2
 fed-to-requires-2 c κs = search needs
 
 returns-3 : tie.Need-returns-3
-returns-3 c = simp (c .fed-to2 .ensures) (record { within = λ h. h; nearer = λ h. absurd (omega (arith, h, c .before .if1 .left)) })
+returns-3 c = simp (c .fed-to2 .ensures) (record { within = λ h. h; nearer = λ h. absurd (omega (arith, h, c .before .if1 .left)) }, λ later remainder p q. q)
 
 pub advance-spec : {M : Type 1} → statement M
 advance-spec =

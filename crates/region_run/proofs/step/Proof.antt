@@ -1,79 +1,85 @@
--- `step` meets its contract: what is fed comes nearer to the end of the block, and a refusal is at it.
+-- `step` meets its contract: what is found is written as its text, and a refusal is at the end of the block.
+use Prim.Native.Nat.{_*_, _+_, _<_, _≤_}
 use borrow.Author.Needs.{needs}
-use mathlib.Core.Path.{subst}
+use lib.ListN.{drop, length}
+use mathlib.Core.Bool.{Bool, false, true, false≢true}
+use mathlib.Core.List.{[]}
+use mathlib.Core.Path.{_∙_, refl, sym}
 use native.Mathlib.Omega.{arith}
-use Rattle.region_feed.specs.declared.Found.{Found}
-use Rattle.region_feed.specs.Feed.{Nearer}
 use Rattle.region_program.proofs.Steps.{acts-few}
+use Rattle.region_program.specs.Stream.{actsLeft, mostActs, seen}
+use Rattle.region_program.specs.Tables.{tableScore}
+use Rattle.region_run.proofs.Texts.{found-goes, found-stopped, goes-nearer}
+use Rattle.region_run.specs.Run.{Wrote, foundText}
 use Rattle.region_run.proofs.step.Statement.{statement}
 use Rattle.region_run.proofs.step.Tie as tie
 
 advance-requires : tie.Need-advance-requires
 advance-requires c κs = search needs
 
-enum-told : tie.Need-enum-told
-enum-told c = search needs
+print-requires : tie.Need-print-requires
+print-requires c κs = search needs
+
+is-over-requires : tie.Need-is-over-requires
+is-over-requires c κs = search needs
 
 run-at-requires : tie.Need-run-at-requires
 run-at-requires c κs = search needs
 
-enum-known-found : tie.Need-enum-known-found
-enum-known-found c = search needs
-
-line-requires : tie.Need-line-requires
-line-requires c κs = search needs
+returns : tie.Need-returns
+returns c =
+    let over = c .before .before in
+    let print = over .before in
+    let call = print .before .before .before in
+    let start = call .before .before .before .before .before .before in
+    let a = start .args in
+    let f = call .advance .result in
+    let e = call .advance .ensures in
+    let left = call .advance .last .1 .1 .1 in
+    let after = seen (f .stream) (left .0) (left .1 .0) (left .1 .1 .0) in
+    let stops = sym (over .is-over .ensures) ∙ c .before .if1 .taken in
+    simp (c .run-at .ensures) (record {
+      new = foundText (f .found);
+      written = print .print .ensures .1;
+      wrote = found-stopped (tableScore (a .table .now) (a .priors .now)) (f .found) _ after after _ (drop (f .at) (a .words .now)) [] stops (e .1);
+      room = print .print .ensures .0;
+      done = λ h. refl;
+      within = omega arith;
+      nearer = omega (arith, start .pre .0, acts-few (f .stream));
+    })
 
 run-at-requires-2 : tie.Need-run-at-requires-2
 run-at-requires-2 c κs = search needs
 
-enum-known-found-2 : tie.Need-enum-known-found-2
-enum-known-found-2 c = search needs
-
-refusal-requires : tie.Need-refusal-requires
-refusal-requires c κs = search needs
-
-run-at-requires-3 : tie.Need-run-at-requires-3
-run-at-requires-3 c κs = search needs
-
-returns : tie.Need-returns
-returns c =
-    let told = c .before in
-    let call = told .before .before .before in
-    let start = call .before .before .before .before .before .before .before in
-    let r = call .advance .result in
-    let e = call .advance .ensures in
-    let near = subst (λ (f : Found). Nearer f (start .args .r .stream) (start .args .r .at) (r .stream) (r .at)) (told .enum-told .given .1) (e .nearer (start .pre)) in
-    simp (c .run-at .ensures) (record { within = e .within (omega (arith, start .pre)); nearer = near })
-
 returns-2 : tie.Need-returns-2
 returns-2 c =
-    let told = c .before .before .before .before .before .before in
-    let call = told .before .before .before in
-    let start = call .before .before .before .before .before .before .before in
-    let r = call .advance .result in
+    let over = c .before .before in
+    let print = over .before in
+    let call = print .before .before .before in
+    let start = call .before .before .before .before .before .before in
+    let a = start .args in
+    let f = call .advance .result in
     let e = call .advance .ensures in
-    let near = subst (λ (f : Found). Nearer f (start .args .r .stream) (start .args .r .at) (r .stream) (r .at)) (told .found .given .1) (e .nearer (start .pre)) in
-    simp (c .run-at2 .ensures) (record { within = e .within (omega (arith, start .pre)); nearer = near })
-
-returns-3 : tie.Need-returns-3
-returns-3 c =
-    let call = c .before .before .before .before .before .before .before in
-    let start = call .before .before .before .before .before .before .before in
-    simp (c .run-at3 .ensures) (record { within = omega arith; nearer = omega (arith, start .pre, acts-few (call .advance .result .stream)) })
+    let goes = sym (over .is-over .ensures) ∙ c .before .if1 .left in
+    let scoring = tableScore (a .table .now) (a .priors .now) in
+    simp (c .run-at2 .ensures) (record {
+      new = foundText (f .found);
+      written = print .print .ensures .1;
+      wrote = found-goes scoring (f .found) _ _ _ _ goes (e .1);
+      room = print .print .ensures .0;
+      done = λ h. absurd (false≢true h);
+      within = e .0 .within (omega (arith, start .pre .0));
+      nearer = goes-nearer (f .found) _ _ _ _ goes (e .0 .nearer (start .pre .0));
+    })
 
 pub step-spec : {M : Type 1} → statement M
 step-spec =
     tie.close
     (tie.spec
     advance-requires
-    enum-told
+    print-requires
+    is-over-requires
     run-at-requires
-    enum-known-found
-    line-requires
-    run-at-requires-2
-    enum-known-found-2
-    refusal-requires
-    run-at-requires-3
     returns
-    returns-2
-    returns-3)
+    run-at-requires-2
+    returns-2)

@@ -42,8 +42,8 @@ returns c =
     let start = call .before .before .before .before .before .before .before .before in
     let r = call .advance .result in
     let e = call .advance .ensures in
-    let near = subst (λ (f : Found). Nearer f (start .args .r .stream) (start .args .r .at) (r .stream) (r .at)) (told .enum-told .given .1) (e .nearer (start .pre)) in
-    simp (c .replayed-to .ensures) (record { within = e .within (omega (arith, start .pre)); nearer = near })
+    let near = subst (λ (f : Found). Nearer f (start .args .r .stream) (start .args .r .at) (r .stream) (r .at)) (told .enum-told .given .1) (e .0 .nearer (start .pre)) in
+    simp (c .replayed-to .ensures) (record { within = e .0 .within (omega (arith, start .pre)); nearer = near })
 
 returns-2 : tie.Need-returns-2
 returns-2 c =
@@ -52,8 +52,8 @@ returns-2 c =
     let start = call .before .before .before .before .before .before .before .before in
     let r = call .advance .result in
     let e = call .advance .ensures in
-    let near = subst (λ (f : Found). Nearer f (start .args .r .stream) (start .args .r .at) (r .stream) (r .at)) (told .found .given .1) (e .nearer (start .pre)) in
-    simp (c .replayed-to2 .ensures) (record { within = e .within (omega (arith, start .pre)); nearer = near })
+    let near = subst (λ (f : Found). Nearer f (start .args .r .stream) (start .args .r .at) (r .stream) (r .at)) (told .found .given .1) (e .0 .nearer (start .pre)) in
+    simp (c .replayed-to2 .ensures) (record { within = e .0 .within (omega (arith, start .pre)); nearer = near })
 
 returns-3 : tie.Need-returns-3
 returns-3 c =

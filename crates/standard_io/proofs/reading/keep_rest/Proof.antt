@@ -1,21 +1,23 @@
--- `keep_rest` is safe: there are at most three bytes, and they stand within the block.
-use Prim.Native.Nat.{_-_, _≤_}
-use Rattle.activity_profile.specs.Pop.{rest}
+-- `keep_rest` meets its contract: the bytes before i are moved, and one that is read has not been written.
+use Prim.Native.Nat.{_%_, _+_, _-_, _<_, _≤_}
 use borrow.Author.Needs.{needs}
-use lib.ListN.{length, length-set}
-use mathlib.Core.Path.{_≡_, refl}
+use borrow.Author.Tests.{le-ltb, lt-ltb}
+use lib.ListN.{getD, length, length-set}
+use mathlib.Core.Path.{_∙_, _≡_, refl, sym}
+use Rattle.lists.specs.Each.{getD-upTo-above, upTo, upTo-put, upTo-rest, upTo-zero}
+use Rattle.standard_io.specs.Words.{movedByte}
 use native.Mathlib.Omega.{arith}
 use Rattle.standard_io.proofs.reading.keep_rest.Statement.{statement}
 use Rattle.standard_io.proofs.reading.keep_rest.Tie as tie
 
 abbrev Inv-loop : tie.InvT-loop
-Inv-loop bytes₀ n rest i₀ bytes i = (i ≤ rest) × (length bytes ≡ length bytes₀)
+Inv-loop bytes₀ n rest i₀ bytes i = (i ≤ rest) × (length bytes ≡ length bytes₀) × (bytes ≡ upTo (movedByte bytes₀ n) i bytes₀)
 
 abbrev μ-loop : tie.MeasureT-loop
 μ-loop bytes₀ n rest i₀ bytes i = rest - i
 
 loop-holds : tie.Need-loop-holds Inv-loop μ-loop
-loop-holds c = (omega arith, refl)
+loop-holds c = (omega arith, refl, sym (upTo-zero _ _))
 
 sub-bytes : tie.Need-sub-bytes Inv-loop μ-loop
 sub-bytes c = search needs
@@ -36,13 +38,27 @@ loop-less : tie.Need-loop-less Inv-loop μ-loop
 loop-less c = search needs
 
 loop-again : tie.Need-loop-again Inv-loop μ-loop
-loop-again c = (omega arith, simp length-set (omega arith))
+loop-again c =
+    let at = c .before .before in
+    let start = at .before in
+    let a = start .args in
+    let rule = movedByte (a .bytes .now) (a .n) in
+    let i = at .loop .i in
+    let below : i < a .n % 4 = c .before .loop-test .taken in
+    let read : getD (at .loop .bytes) (a .n - a .n % 4 + i) 0 ≡ getD (a .bytes .now) (a .n - a .n % 4 + i) 0 =
+    rw (at .loop .inv .2) (getD-upTo-above rule i (a .bytes .now) (a .n - a .n % 4 + i) 0 (omega arith)) in
+    (omega arith, simp length-set (at .loop .inv .1), upTo-put rule i _ _ 0 _ (at .loop .inv .2) (omega (arith, start .pre)) (simp (lt-ltb _ _ below) read))
 
 same-length : tie.Need-same-length Inv-loop μ-loop
 same-length c = search needs
 
 returns : tie.Need-returns Inv-loop μ-loop
-returns c = (omega arith, c .before .loop .inv .1)
+returns c =
+    let at = c .before in
+    let a = at .before .args in
+    let rule = movedByte (a .bytes .now) (a .n) in
+    let done : at .loop .i ≡ a .n % 4 = omega arith in
+    (refl, at .loop .inv .2 ∙ upTo-rest rule _ (a .bytes .now) (λ k x h. simp (le-ltb k (a .n % 4) (omega (arith, done)))))
 
 pub keep-rest-spec : {M : Type 1} → statement M
 keep-rest-spec =
