@@ -1,19 +1,21 @@
 -- What a making that is not refused returns: a fresh record, and a kernel of 2F + 1 entries. Assumes nothing.
 use mathlib.Core.Path.{_≡_, refl, sym, ap, _∙_}
-use mathlib.Core.Bool.{Bool, true, false, cond}
+use mathlib.Core.Bool.{Bool, true, false, cond, _&&_}
 use mathlib.Core.List.{List}
-use Prim.Native.Nat.{ℕ}
+use Prim.Native.Nat.{ℕ, _<_}
 use native.Mathlib.Omega.{arith}
-use lib.Dec.{eqb}
-use lib.ListN.{length, take}
-use lib.Ieee.{Float}
-use Rattle.lists.specs.Tests.{and-left}
+use lib.Dec.{T, eqb}
+use lib.ListN.{length, getD, take}
+use lib.Ieee.{Float, le, nan}
+use Rattle.doubles.specs.Constants.{zeroF, oneF}
+use Rattle.lists.specs.Tests.{and-left, and-right}
 use Rattle.genome.specs.Refusals.{Outcome, refused, answered}
-use Rattle.genome.specs.Ranges.{isPosition}
+use Rattle.genome.specs.Ranges.{isPosition, isProbability}
 use Rattle.band_pass_kernel.specs.declared.BandPassActivityProfileParams.{BandPassActivityProfileParams}
 use Rattle.band_pass_kernel.specs.Kernel.{band, gaussianKernel}
-use Rattle.band_pass_kernel.specs.Resolve.{inRange, hasRoom, accepted, filterSize, resolution}
+use Rattle.band_pass_kernel.specs.Resolve.{isDistance, isFilter, isSigma, inRange, hasRoom, accepted, filterSize, resolution}
 use Rattle.band_pass_kernel.proofs.Kernels.{Accepted, accepted-is, filterSize-le, length-gaussian, resolved-is, kernel-resolved}
+use Rattle.band_pass_kernel.proofs.KernelRange.{kernel-unit}
 use Rattle.activity_profile.specs.declared.BandPassActivityProfile.{BandPassActivityProfile}
 use Rattle.activity_profile.specs.Making.{Fresh, freshProfile, madeOf, making, fullAfterMaking, narrowAfterMaking}
 
@@ -66,3 +68,13 @@ kernel-made contig len s full narrow p e =
 -- .. and is 2F + 1 long.
 pub length-kernel : (f : ℕ) (sd : Float) → length (gaussianKernel f sd) ≡ band f
 length-kernel f sd = length-gaussian f sd (band f)
+
+-- Each of its entries is in 0 to 1, so none is a NaN.
+pub kernel-made-unit : (contig len : ℕ) (s : BandPassActivityProfileParams) (n m : ℕ) (p : BandPassActivityProfile) → making contig len s n m ≡ answered p → (i : ℕ) → i < band (p .«filter_size»)
+    → T (le zeroF (getD (gaussianKernel (p .«filter_size») (s .sigma)) i nan)) × T (le (getD (gaussianKernel (p .«filter_size») (s .sigma)) i nan) oneF)
+kernel-made-unit contig len s n m p e i h =
+    let fresh = fresh-is contig len s n m p e in
+    kernel-unit (p .«filter_size») (s .sigma) (fresh .filter-up-to-500) (sigma-in-range s (fresh .in-range)) i h
+  where
+    sigma-in-range : (s : BandPassActivityProfileParams) → inRange s ≡ true → isSigma (s .sigma) ≡ true
+    sigma-in-range s r = and-right (isDistance (s .«max_prob_propagation_distance») && isProbability (s .«active_prob_threshold») && isFilter (s .«max_filter_size»)) (isSigma (s .sigma)) (unfold inRange in r)

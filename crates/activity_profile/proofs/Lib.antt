@@ -3,6 +3,7 @@ pub mod Verdicts
 pub mod Facts
 pub mod Sizes
 pub mod Cuts
+pub mod CutSite
 pub mod Loci
 pub mod Steps
 pub mod Demand3

@@ -6,3 +6,4 @@ pub mod Least
 pub mod Sums
 pub mod Constants
 pub mod Loops
+pub mod Quotients

@@ -5,7 +5,7 @@ use Prim.Native.Nat.{ℕ, zero, suc, _+_, _*_, _≤_, _<_, zero-le}
 use native.Mathlib.Nat.{le-trans, le-of-eq, le-of-lt, zero-mul}
 use native.Mathlib.Omega.{arith}
 use lib.Dec.{T, ltb, eqb, ltb→lt, eqb→eq}
-use borrow.Author.Tests.{ltb-true, ltb-false}
+use borrow.Author.Tests.{ltb-true, ltb-false, le-ltb}
 use lib.Ieee.{Float, nan, inf, fin, up, down, lt, le}
 use lib.Ieee.Fits.{down-pos}
 use lib.Ieee.Positive.{through}
@@ -139,3 +139,48 @@ at-most-of-le (fin false m e) (fin true n d) h =
     go true false p q t = absurd t
     go false y p q t = absurd t
 at-most-of-le (fin false m e) (fin false n d) h = tested (m * up e * down d) (n * up d * down e) (eqb (m * up e * down d) (n * up d * down e)) (eqb→eq (m * up e * down d) (n * up d * down e)) h
+
+-- ---- and back
+
+pub at-most-not-lt : (x y : Float) → AtMost y x → lt x y ≡ false
+unfolding lt
+at-most-not-lt nan y p = refl
+at-most-not-lt (inf s) nan p = refl
+at-most-not-lt (inf true) (inf true) p = refl
+at-most-not-lt (inf true) (inf false) p = absurd (true≢false p)
+at-most-not-lt (inf false) (inf t) p = refl
+at-most-not-lt (inf true) (fin t n d) p = absurd (true≢false p)
+at-most-not-lt (inf false) (fin t n d) p = refl
+at-most-not-lt (fin s m e) nan p = refl
+at-most-not-lt (fin s m e) (inf true) p = refl
+at-most-not-lt (fin s m e) (inf false) p = absurd p
+at-most-not-lt (fin true m e) (fin true n d) p = le-ltb (n * up d * down e) (m * up e * down d) p
+at-most-not-lt (fin true m e) (fin false n d) p =
+    le-ltb 0 (m * up e * down d + n * up d * down e) (omega (arith, ap (λ (z : ℕ). z * down d) (p .1) ∙ zero-mul (down d), ap (λ (z : ℕ). z * down e) (p .0) ∙ zero-mul (down e)))
+at-most-not-lt (fin false m e) (fin true n d) p = refl
+at-most-not-lt (fin false m e) (fin false n d) p = le-ltb (m * up e * down d) (n * up d * down e) p
+
+pub number-below : (x y : Float) → AtMost x y → Number x
+number-below nan y p = absurd p
+number-below (inf s) y p = tt
+number-below (fin s m e) y p = tt
+
+pub number-above : (x y : Float) → AtMost x y → Number y
+number-above nan y p = absurd p
+number-above (inf s) nan p = absurd p
+number-above (inf s) (inf t) p = tt
+number-above (inf s) (fin t n d) p = tt
+number-above (fin s m e) nan p = absurd p
+number-above (fin s m e) (inf t) p = tt
+number-above (fin s m e) (fin t n d) p = tt
+
+-- below a number that is at most another
+pub lt-at-most : (x y z : Float) → lt x y ≡ true → AtMost y z → lt x z ≡ true
+lt-at-most x y z h p = go (lt x z) refl
+  where
+    below : AtMost x y
+    below = at-most-of-lt x y h
+
+    go : (b : Bool) → lt x z ≡ b → b ≡ true
+    go true e = refl
+    go false e = absurd (false≢true (sym (at-most-not-lt x y (at-most-trans y z x p (at-most-of-not-lt x z (number-below x y below) (number-above y z p) e))) ∙ h))
