@@ -290,21 +290,33 @@ fn single_pop(r: &mut Random, out: &mut impl Write) {
     record_words(popped_words(answer, popped), &record).elements(&cells).write(out);
 }
 
-/// Where cells hold what no add leaves, document 01 decides and not the Rust's start from f64::MAX.
-fn cut_at_max(out: &mut impl Write) {
-    let mut record =
-        Record { contig: 1, contig_len: 100, distance: 1, threshold: 0.05, filter: 0, start: 1, last: 5, count: 5 };
-    let mut cells = vec![0.9, f64::INFINITY, f64::MAX, f64::INFINITY, 0.9];
-    let sizes = Sizes { extension: 0, min: 2, max: 4, forced: false };
+/// A pop of document 01's examples: threshold 0.05, max 4, min 2, distance 1, F 0, L 100, start 1, last input at the last cell, unforced.
+fn example_pop(cells: &[f64], min: u32, forced: bool, out: &mut impl Write) {
+    let n = cells.len() as u32;
+    let mut record = Record { contig: 1, contig_len: 100, distance: 1, threshold: 0.05, filter: 0, start: 1, last: n, count: n };
+    let mut cells = cells.to_vec();
+    let sizes = Sizes { extension: 0, min, max: 4, forced };
     let answer = record_words(Answer::of(Function::Pop), &record);
     let answer = sizes_words(answer, sizes).doubles(&cells);
     let popped = document::pop(&mut record, sizes, &mut cells);
     record_words(popped_words(answer, popped), &record).elements(&cells).write(out);
 }
 
+/// P1 to P6; a tie of three; and cells that no add leaves, where document 01 decides and not the Rust's start from f64::MAX.
+fn examples(out: &mut impl Write) {
+    example_pop(&[0.9, f64::INFINITY, f64::MAX, f64::INFINITY, 0.9], 2, false, out);
+    example_pop(&[0.9, 0.5, 0.2, 0.5, 0.9], 2, false, out);
+    example_pop(&[0.9, 0.2, 0.5, 0.2, 0.9], 2, false, out);
+    example_pop(&[0.2, 0.3, 0.4, 0.5, 0.6], 2, false, out);
+    example_pop(&[0.9, 0.3, 0.3, 0.9, 0.9], 2, false, out);
+    example_pop(&[0.9, 0.5, 0.2, 0.5, 0.9], 9, false, out);
+    example_pop(&[0.9, 0.5, 0.2, 0.1], 2, true, out);
+    example_pop(&[0.9, 0.2, 0.5, 0.2, 0.5, 0.2, 0.9], 1, false, out);
+}
+
 pub fn call_list(seed: u64, count: u64, out: &mut impl Write) {
     let mut r = Random::from_seed(seed);
-    cut_at_max(out);
+    examples(out);
     for _ in 0..count {
         single_add(&mut r, out);
         single_pop(&mut r, out);

@@ -150,6 +150,8 @@ fn edge_scores(out: &mut impl Write) {
     score_answer(DEFAULT, 9, 1, &[near(6)], out);
     score_answer(DEFAULT, 9, 7, &[near(6), near(6), near(6), near(6), near(6), near(6), near(7)], out);
     score_answer(DEFAULT, 9, 3, &[near(0), near(0x7_ffff), near(3)], out);
+    // the running mean rounds at each word: of 10 15 0 3 it is just below 7
+    score_answer(DEFAULT, 9, 4, &[near(10), near(15), near(0), near(3)], out);
     score_answer(DEFAULT, 9, 3, &[word(30, false, false, true, 90), word(9, false, true, true, 90), near(5)], out);
     // words of other kinds
     for kind in [0u32, 2, 3] {

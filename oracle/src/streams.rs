@@ -163,16 +163,64 @@ fn damage(r: &mut Random, items: &mut Vec<Item>) {
     }
 }
 
-/// A pile of so many words; more loci than there are cells; and long active stretches at the defaults.
-fn large(r: &mut Random) -> Vec<Item> {
-    let mut items = Vec::new();
-    if r.chance(2) {
-        let depth = r.pick(&[16_383, 16_384, 16_385, 16_386, 20_000]);
-        items.push(one(r.pick(&[0, 7, 1_000])));
-        items.push(Item { times: depth, step: 0, words: vec![observation(30, r.pick(&[0, 2]), 0)] });
-        items.push(one(r.pick(&[8, 8, pop(1), pop(7)])));
-        return items;
+/// A whole contig of few loci, with clipped reads at its ends: their windows, and what they spread, reach past both.
+fn contig_ends(r: &mut Random) -> Vec<Item> {
+    let length = 3 + r.below(30) as u32;
+    let sizes = [1 + r.below(9), 1 + r.below(4), r.below(9), r.below(8), r.below(7), length.into()];
+    let mut items: Vec<Item> = (1..).zip(sizes).map(|(field, value)| one(setting(field, value as u32))).collect();
+    let habit = r.pick(&[1, 4, 1000]);
+    for p in 1..=length + u32::from(r.chance(6)) {
+        let mut words = vec![p];
+        if p <= 3 || p + 3 > length || r.chance(6) {
+            let clips = r.pick(&[7, 8, 12, 40, 524_287]);
+            words.extend((0..1 + r.below(4)).map(|_| observation(35, 3, clips)));
+        } else if r.chance(3) {
+            words.extend(pile(r));
+        }
+        items.push(Item { times: 1, step: 0, words });
+        if r.chance(habit) {
+            items.push(one(pop(0)));
+        }
     }
+    items.push(one(pop(1)));
+    items
+}
+
+/// Long active stretches of few different activities, so that a region reaches max and has several places to be cut at, often equal ones.
+fn cuts(r: &mut Random) -> Vec<Item> {
+    let filter = r.pick(&[0, 0, 0, 1, 3]);
+    let sizes = [3 + r.below(12), 1 + r.below(4), r.below(4), r.below(4), filter, 2_000];
+    let mut items: Vec<Item> = (1..).zip(sizes).map(|(field, value)| one(setting(field, value as u32))).collect();
+    let reference = observation(30, 0, 0);
+    let piles: Vec<Vec<u32>> = (0..2 + r.below(3)).map(|_| vec![observation(20 + r.below(20) as u32, 2, 0), reference]).collect();
+    let habit = r.pick(&[1, 5, 30]);
+    let mut p = 1;
+    for _ in 0..10 + r.below(60) {
+        let times = r.pick(&[1, 1, 1, 2, 3]);
+        let mut words = vec![p];
+        if !r.chance(25) {
+            words.extend(&piles[r.below(piles.len() as u64) as usize]);
+        }
+        items.push(Item { times, step: 1, words });
+        p += times;
+        if r.chance(habit) {
+            items.push(one(pop(0)));
+        }
+    }
+    items.push(one(pop(1)));
+    items
+}
+
+/// A pile of about as many words as there may be, in front of a word that ends it.
+fn deep(r: &mut Random) -> Vec<Item> {
+    let depth = r.pick(&[16_383, 16_384, 16_385, 16_386, 20_000]);
+    let locus = one(r.pick(&[0, 7, 7, 1_000]));
+    vec![locus, Item { times: depth, step: 0, words: vec![observation(30, r.pick(&[0, 2]), 0)] }, one(r.pick(&[8, 8, pop(1), pop(7)]))]
+}
+
+/// About as many loci without a pop as there are cells, and more.
+fn full(r: &mut Random) -> Vec<Item> {
+    let mut items = Vec::new();
     let mut words = vec![1];
     words.extend(pile(r));
     let times = r.pick(&[4_000, 4_046, 4_047, 4_095, 4_096, 4_097, 5_000]);
@@ -187,17 +235,25 @@ fn large(r: &mut Random) -> Vec<Item> {
 }
 
 fn stream(r: &mut Random) -> Stream {
-    if r.chance(40) {
-        return Stream::of(large(r));
+    match r.below(40) {
+        0 => Stream::of(deep(r)),
+        1 | 2 => Stream::of(full(r)),
+        _ => small(r),
     }
-    small(r)
 }
 
+/// A stream of few words, as a list has room for.
 fn small(r: &mut Random) -> Stream {
     let mut items = Vec::new();
-    settings(r, &mut items);
-    if !r.chance(20) {
-        loci(r, &mut items);
+    match r.below(8) {
+        0 => items = contig_ends(r),
+        1 | 2 => items = cuts(r),
+        _ => {
+            settings(r, &mut items);
+            if !r.chance(20) {
+                loci(r, &mut items);
+            }
+        }
     }
     while r.chance(3) && !items.is_empty() {
         damage(r, &mut items);
@@ -232,6 +288,10 @@ fn edges() -> Vec<Stream> {
         words(&[0, setting(1, 3), 1]),
         words(&[3, alt, setting(1, 3)]),
         words(&[3, pop(1), setting(1, 3)]),
+        // .. with a value that is outside its range, which is not what it is refused for
+        words(&[1, setting(5, 501)]),
+        words(&[1, alt, setting(4, 1_000_001)]),
+        words(&[1, pop(1), setting(6, 0)]),
         // an observation without a pile
         words(&[alt]),
         words(&[3, pop(0), alt]),
@@ -287,12 +347,15 @@ fn output_of(program: &str, input: Vec<u8>) -> String {
 pub fn compare(program: &str, seed: u64, count: u64) -> bool {
     let r = &mut Random::from_seed(seed);
     let fresh = (0..count).map(|_| stream(r));
-    let (mut same, mut asked, mut refused, mut lines) = (0u64, 0u64, 0u64, 0usize);
+    let (mut same, mut asked, mut lines) = (0u64, 0u64, 0usize);
+    let mut refused = [0u64; 12];
     for s in edges().into_iter().chain(fresh) {
         let input = s.bytes();
         let expected = region::printed(&input);
         asked += 1;
-        refused += u64::from(expected.contains("refused"));
+        if let Some(number) = refusal_in(&expected) {
+            refused[number] += 1;
+        }
         lines += expected.lines().count();
         let printed = output_of(program, input);
         if printed == expected {
@@ -302,8 +365,16 @@ pub fn compare(program: &str, seed: u64, count: u64) -> bool {
             println!("differs: {} and {} bytes\nexpected\n{expected}printed\n{printed}", words.join(" "), s.remainder.len());
         }
     }
-    println!("{same} of {asked} streams are the same; {refused} are refused, and {lines} lines are printed");
+    println!("{same} of {asked} streams are the same; {} are refused, and {lines} lines are printed", refused.iter().sum::<u64>());
+    let by_number: Vec<String> = (1..12).filter(|&n| refused[n] > 0).map(|n| format!("{n}: {}", refused[n])).collect();
+    println!("refusals by number: {}", by_number.join(", "));
     same == asked
+}
+
+/// The number of the refusal that ends an output.
+fn refusal_in(printed: &str) -> Option<usize> {
+    let last = printed.lines().last()?.strip_prefix("refused ")?;
+    last.split(' ').next()?.parse().ok()
 }
 
 /// The sample of the repository: a panel of one gene, 1,200 loci read by 12 reads each, quiet but for a resistance allele at 300 to 304 carried by half of the

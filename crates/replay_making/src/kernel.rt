@@ -13,7 +13,7 @@ ghost use mathlib.Core.Path.{_≡_};
 ghost use Rattle.replay_making.specs.Params.{paramsOf};
 
 // mean, sd, x; the density.
-pub fn normal_distribution(words: &[u64]) -> bool {
+pub(crate) fn normal_distribution(words: &[u64]) -> bool {
     let r = band_pass_kernel::normal_distribution(
         double_at(words, 0),
         double_at(words, 1),
@@ -23,7 +23,7 @@ pub fn normal_distribution(words: &[u64]) -> bool {
 }
 
 // filter size, sigma, length; the entries.
-pub fn make_gaussian_kernel(words: &[u64]) -> bool {
+pub(crate) fn make_gaussian_kernel(words: &[u64]) -> bool {
     let n = length_at(words, 2);
     let mut kernel = [0.0f64; 1024];
     make_gaussian_kernel_in(words, &mut kernel[..n])
@@ -35,7 +35,7 @@ fn make_gaussian_kernel_in(words: &[u64], kernel: &mut [f64]) -> bool {
 }
 
 // least, length, entries; the size.
-pub fn adaptive_filter_size(words: &[u64]) -> bool {
+pub(crate) fn adaptive_filter_size(words: &[u64]) -> bool {
     let n = length_at(words, 1);
     let kernel = doubles_from(words, 2);
     let r = band_pass_kernel::adaptive_filter_size(&kernel[..n], double_at(words, 0));
@@ -44,7 +44,7 @@ pub fn adaptive_filter_size(words: &[u64]) -> bool {
 
 // contig, contig length, distance, threshold, max filter, sigma, adaptive, fill, the two buffers' lengths; the refusal's number or 0;
 // where 0, the filter size, the kernel's length and entries; the two buffers after the call.
-pub fn making(words: &[u64]) -> bool {
+pub(crate) fn making(words: &[u64]) -> bool {
     let n = length_at(words, 8);
     let m = length_at(words, 9);
     let mut full = filled(word_at(words, 7));

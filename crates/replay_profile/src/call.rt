@@ -14,7 +14,7 @@ use answer_list::word_at;
 use genome::GenomePosition;
 
 // record, state, k, kernel[k], n, cells[n]; the refusal's number or 0, record, cells[n].
-pub fn add(words: &[u64]) -> bool {
+pub(crate) fn add(words: &[u64]) -> bool {
     let k = length_at(words, 13);
     let kernel = doubles_from(words, 14);
     let n = length_at(words, 14 + k);
@@ -31,7 +31,7 @@ fn add_in(words: &[u64], kernel: &[f64], cells: &mut [f64], results: usize) -> b
 }
 
 // The number of an add's refusal, or 0.
-pub fn added_number(words: &[u64], c: Compared, added: Added) -> Compared {
+pub(crate) fn added_number(words: &[u64], c: Compared, added: Added) -> Compared {
     match added {
         Added::Accepted(_) => c.word(words, 0),
         Added::Refused(why, _) => c.word(words, why.number() as u64),
@@ -39,7 +39,7 @@ pub fn added_number(words: &[u64], c: Compared, added: Added) -> Compared {
 }
 
 // The record that an add hands back.
-pub fn added_record(added: Added) -> BandPassActivityProfile {
+pub(crate) fn added_record(added: Added) -> BandPassActivityProfile {
     match added {
         Added::Accepted(p) => p,
         Added::Refused(_, p) => p,
@@ -47,7 +47,7 @@ pub fn added_record(added: Added) -> BandPassActivityProfile {
 }
 
 // record, extension, min, max, forced, n, cells[n]; the answer, record, cells[n].
-pub fn pop(words: &[u64]) -> bool {
+pub(crate) fn pop(words: &[u64]) -> bool {
     let n = length_at(words, 12);
     let mut cells = doubles_from(words, 13);
     pop_in(words, &mut cells[..n], 13 + n)
@@ -62,7 +62,7 @@ fn pop_in(words: &[u64], cells: &mut [f64], results: usize) -> bool {
 }
 
 // A pop with the sizes from word `at` on.
-pub fn pop_at(words: &[u64], p: BandPassActivityProfile, at: usize, cells: &mut [f64]) -> Popped {
+pub(crate) fn pop_at(words: &[u64], p: BandPassActivityProfile, at: usize, cells: &mut [f64]) -> Popped {
     profile_pop::try_pop_next_ready_region(
         p,
         cells,
@@ -74,7 +74,7 @@ pub fn pop_at(words: &[u64], p: BandPassActivityProfile, at: usize, cells: &mut 
 }
 
 // The answer: 0 and the region; 1, held; 2, empty; 3 and the refusal's number.
-pub fn answer(words: &[u64], c: Compared, popped: Popped) -> Compared {
+pub(crate) fn answer(words: &[u64], c: Compared, popped: Popped) -> Compared {
     match popped {
         Popped::Ready(r, _) => region(words, c.word(words, 0), r),
         Popped::Held(_) => c.word(words, 1),
@@ -98,7 +98,7 @@ fn flag(b: bool) -> u64 {
 }
 
 // The record that a pop hands back.
-pub fn popped_record(popped: Popped) -> BandPassActivityProfile {
+pub(crate) fn popped_record(popped: Popped) -> BandPassActivityProfile {
     match popped {
         Popped::Ready(_, p) => p,
         Popped::Held(p) => p,
@@ -132,7 +132,7 @@ fn record_at(words: &[u64], at: usize) -> BandPassActivityProfile {
 }
 
 // contig, position, probability, original probability, 0 for plain evidence or the clip count + 1.
-pub fn state_at(words: &[u64], at: usize) -> ActivityProfileState {
+pub(crate) fn state_at(words: &[u64], at: usize) -> ActivityProfileState {
     ActivityProfileState {
         contig: number_at(words, at),
         pos: GenomePosition(number_at(words, plus(at, 1))),
@@ -152,6 +152,6 @@ fn evidence_of(w: u64) -> ActivityEvidence {
 }
 
 // A place further on; a sum past the last place is no word.
-pub fn plus(at: usize, n: usize) -> usize {
+pub(crate) fn plus(at: usize, n: usize) -> usize {
     std::num::wrapping_add_usize(at, n)
 }

@@ -14,7 +14,7 @@ struct Running {
 }
 
 // contig, contig length, distance, threshold, max filter, sigma, adaptive, fill, n, how many calls; then each call.
-pub fn run(words: &[u64]) -> bool {
+pub(crate) fn run(words: &[u64]) -> bool {
     let n = answer_list::length_at(words, 8);
     let mut full = [0.0f64; 64];
     let mut narrow = [0.0f64; 64];

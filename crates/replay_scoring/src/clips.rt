@@ -6,7 +6,7 @@ use answer_list::word_at;
 use hq_soft_clip::SoftClips;
 
 // k, cigar[k], n, qualities[n]; the refusal's number or 0, and where 0 the count.
-pub fn clip_count(words: &[u64]) -> bool {
+pub(crate) fn clip_count(words: &[u64]) -> bool {
     let k = length_at(words, 0);
     let cigar = numbers_from(words, 1);
     let n = length_at(words, 1 + k);

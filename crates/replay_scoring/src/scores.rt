@@ -16,7 +16,7 @@ ghost use Rattle.activity_scoring.specs.Score.{maxDepth};
 // contig, position, min base quality, ploidy, heterozygosity, deviation, deletion quality, alt multiplier, flow, depth,
 // k, words[k]; the refusal's number or 0, and where 0 probability, original probability and evidence. Word i of the pile
 // is words[i % k].
-pub fn score(words: &[u64]) -> bool {
+pub(crate) fn score(words: &[u64]) -> bool {
     let n = depth_at(words, 9);
     let k = length_at(words, 10);
     let pile = pile_from(words, 11, k, n);

@@ -12,21 +12,21 @@ pub struct Expected {
 
 impl Expected {
     // With the line of a region.
-    pub fn line(self, words: &[u64], region: ActivityProfileRegion) -> Expected {
+    pub(crate) fn line(self, words: &[u64], region: ActivityProfileRegion) -> Expected {
         let mut text = [0u8; TEXT];
         let start = region_text::line_text(region, &mut text);
         self.text(words, &text, start)
     }
 
     // With the line of a refusal.
-    pub fn refusal(self, words: &[u64], why: Refusal, index: u64) -> Expected {
+    pub(crate) fn refusal(self, words: &[u64], why: Refusal, index: u64) -> Expected {
         let mut text = [0u8; TEXT];
         let start = region_text::refusal_text(why, index, &mut text);
         self.text(words, &text, start)
     }
 
     // Whether all agreed, and nothing more is expected: the text's length stands in word `at`, its bytes behind that.
-    pub fn is_at_end(self, words: &[u64], at: usize) -> bool {
+    pub(crate) fn is_at_end(self, words: &[u64], at: usize) -> bool {
         let length = std::num::wrapping_add_u64(word_at(words, at), 1);
         self.same & (self.at as u64 == std::num::wrapping_add_u64(at as u64, length))
     }

@@ -7,7 +7,8 @@ ghost use lib.ListN.{length, take};
 ghost use mathlib.Core.Path.{_≡_};
 
 // Writes the first n bytes of a block, or all where there are fewer, and answers whether it could. A failure is told on
-// standard error; no byte behind it is written.
+// standard error; no byte behind it is written. What becomes of bytes that are written is outside the logic, so there is
+// nothing that a contract could equate.
 pub fn write_front(block: &[u8; BLOCK], n: usize) -> bool {
     let written = write_all(first(block, n));
     if !written {
