@@ -1,11 +1,11 @@
 /* Calls of the part that a maker may get wrong, and what they answer: tables that are stale, unfilled, short or long, kernels without room, NULL with a length
- * of 0. part/examples.sh runs it. Prints each answer that is not the one that part/region_picker.h promises, and then how many are. */
+ * of 0, memory that holds NaNs. part/examples.sh runs it. Prints each answer that is not the one that part/region_picker.h promises, and then how many are. */
 #include "region_picker.h"
 #include <stdio.h>
 #include <string.h>
 
 #define KERNEL 101
-#define LONGEST 52227 /* the table of ploidy 100 */
+#define LONGEST 53251 /* the table of ploidy 100 */
 
 static int right, wrong;
 
@@ -87,9 +87,27 @@ static void kernels(void) {
     check("an empty pile", region_picker_score(1, NULL, 0, NULL, 0, NULL, 0, 10, 2, 0.001, 0.01, 30, 1.0, false, full, profile) == 0 && full[0] == 0.0);
 }
 
+/* Refused calls on NaNs of several payloads, which the proofs do not tell apart. */
+static void payloads(void) {
+    static const uint64_t patterns[4] = {0x7ff8000000000000u, 0x7ff8deadbeef0001u, 0xfff8000000000007u, 0x7ff0000000000001u};
+    double cells[4], kernel[4];
+    uint32_t profile[REGION_PICKER_PROFILE] = {0, 100, 1, 0, 1, 4, 4}, region[REGION_PICKER_REGION] = {7, 7, 7, 7, 7, 7, 7};
+    memcpy(cells, patterns, sizeof cells);
+    memcpy(kernel, patterns, sizeof kernel);
+    check("an add off the contig", region_picker_add(profile, 0.002, 0, 101, 0.5, 0.0, true, 3, kernel, 1, cells, 4) == 7);
+    check("an add without room", region_picker_add(profile, 0.002, 0, 5, 0.5, 0.0, false, 0, kernel, 1, cells, 4) == 10);
+    check("a pop of size 0", region_picker_pop(profile, 0.002, 0, 0, 4, true, cells, 4, region) == 11);
+    check("a held pop", region_picker_pop(profile, 0.002, 0, 1, 9, false, cells, 4, region) == REGION_PICKER_HELD);
+    check("a refused making", region_picker_make(profile, 0, 100, 1, 2.0, 1, 17.0, false, cells, 4, kernel, 4) == 1);
+    check("a refused filling", region_picker_fill_tables(cells, 4, kernel, 4, 10, 2, 0.001, 0.01, 30, 1.0, false) == 2);
+    check("the payloads stay", memcmp(cells, patterns, sizeof cells) == 0 && memcmp(kernel, patterns, sizeof kernel) == 0);
+    check("nothing else is written", profile[REGION_PICKER_COUNT] == 4 && region[0] == 7 && region[6] == 7);
+}
+
 int main(void) {
     tables();
     kernels();
+    payloads();
     printf("%d right, %d wrong\n", right, wrong);
     return wrong != 0;
 }
