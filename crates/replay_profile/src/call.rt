@@ -62,7 +62,12 @@ fn pop_in(words: &[u64], cells: &mut [f64], results: usize) -> bool {
 }
 
 // A pop with the sizes from word `at` on.
-pub(crate) fn pop_at(words: &[u64], p: BandPassActivityProfile, at: usize, cells: &mut [f64]) -> Popped {
+pub(crate) fn pop_at(
+    words: &[u64],
+    p: BandPassActivityProfile,
+    at: usize,
+    cells: &mut [f64],
+) -> Popped {
     profile_pop::try_pop_next_ready_region(
         p,
         cells,

@@ -8,12 +8,12 @@ ghost use mathlib.Core.Path.{_≡_};
 ghost use Prim.Native.Nat.{_+_, _*_, _/_, _%_, _≤_, _<_};
 ghost use lib.ListN.{length};
 ghost use Rattle.lists.specs.Each.{each};
-ghost use Rattle.standard_io.specs.Words.{InBlock, BLOCK as blockSize, WORDS as wordCount, wordAt, readWord, movedByte, keptOf};
+ghost use Rattle.standard_io.specs.Words.{Reads, BLOCK as blockSize, WORDS as wordCount, wordAt, readWord, movedByte, keptOf};
 
 // Reads once, behind the bytes that were kept of a word, and answers the whole words that are there then. A failure is told
 // on standard error.
 pub fn read_words(kept: usize, bytes: &mut [u8; BLOCK], words: &mut [u32; WORDS]) -> Input
-    ensures { λ r. ⌜ InBlock r ⌝ }
+    ensures { λ r. ⌜ Reads (kept % 4) (now (bytes .entry)) (now (bytes .exit)) (now (words .entry)) (now (words .exit)) r ⌝ }
 {
     let from = kept % 4;
     read_behind(from, bytes, words)
@@ -34,7 +34,7 @@ impl Input {
 
 fn read_behind(from: usize, bytes: &mut [u8], words: &mut [u32]) -> Input
     requires { ⌜ (from < 4) × (length (now bytes) ≡ blockSize) × (length (now words) ≡ wordCount) ⌝ }
-    ensures { λ r. ⌜ InBlock r ⌝ }
+    ensures { λ r. ⌜ Reads from (now (bytes .entry)) (now (bytes .exit)) (now (words .entry)) (now (words .exit)) r ⌝ }
 {
     let got = read_once(&mut bytes[from..]);
     if got < 0 {
