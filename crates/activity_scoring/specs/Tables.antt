@@ -18,11 +18,11 @@ use Rattle.genotype_likelihoods.specs.Settings.{settingsInRange}
 use Rattle.genotype_likelihoods.specs.Likelihoods.{likelihoods}
 use Rattle.genotype_likelihoods.specs.Lengths.{length-likelihoods}
 use Rattle.contribution_table.specs.Table.{ploidyOf, tableLength, filled, likelihoodsBy}
-use Rattle.contribution_table.specs.Filled.{Holds, filled-holds, likelihoods-by-filled, likelihoods-by-zeros}
+use Rattle.contribution_table.specs.Filled.{Holds, filled-holds, likelihoods-by-filled, likelihoods-by-own, likelihoods-by-zeros}
 use Rattle.genotype_posterior.specs.Phred.{plRoundTrip}
 use Rattle.genotype_posterior.specs.Posterior.{posterior}
 use Rattle.genotype_posterior.specs.Probability.{rounded-length}
-use Rattle.genotype_posterior.specs.Priors.{priorsLength, log10Priors, posteriorBy, posteriorWrittenBy, HoldsPriors, filled-priors, posterior-filled, posterior-zeros}
+use Rattle.genotype_posterior.specs.Priors.{priorsLength, log10Priors, posteriorBy, posteriorWrittenBy, HoldsPriors, filled-priors, posterior-filled, posterior-own, posterior-zeros}
 use Rattle.log10_sums.specs.Sums.{maxElementIndex}
 use Rattle.activity_profile.specs.declared.ActivityProfileState.{ActivityProfileState}
 use Rattle.activity_profile.specs.Verdict.{Verdict, refusal, granted}
@@ -160,6 +160,17 @@ score-filled s t l k e contig p words =
     let byte : ploidyOf t ≤ 255 = omega (arith, small) in
     score-by-filled s t t (filled t l) (priorsFilled t k) (filled-holds t l (g .1)) byte
     (filled-priors (ploidyOf t) (t .«snp_heterozygosity») (t .«heterozygosity_standard_deviation») k (g .2)) byte contig p words
+
+-- For the call's own settings every slice will do, also one that was too short to be filled.
+pub score-own : (s : HaplotypeCallerActivityScoringParams) (l k : List Float) (contig : ℕ) (p : GenomePosition) (words : List ℕ)
+    → scoreBy (filled s l) (priorsFilled s k) contig p words s ≡ scoreOf contig p words s
+score-own s l k contig p words =
+    score-plain s (filled s l) (priorsFilled s k) contig p words
+    (λ e.
+    let small = ploidy-small s e in (
+      λ n ws. likelihoods-by-own s l n ws (omega (arith, small)) (deletion-byte s e),
+      λ gl g. posterior-own (ploidyOf s) (s .«snp_heterozygosity») (s .«heterozygosity_standard_deviation») k gl g (omega (arith, small)),
+    ))
 
 -- and slices of zeros that were never filled, of any length; none at all are two of length 0
 pub score-zeros : (s : HaplotypeCallerActivityScoringParams) (n m contig : ℕ) (p : GenomePosition) (words : List ℕ)

@@ -7,8 +7,8 @@ use Prim.Native.Nat.{ℕ, zero, suc, _+_, _-_, _*_, _/_, _%_, _<_, _≤_}
 use native.Mathlib.Nat.{mul-le-mul-right, mul-add-div-right, mul-add-mod-self-right, div-eq-of-lt, mod-eq-of-lt, add-zero}
 use native.Mathlib.Omega.{arith}
 use lib.IntN.{pos}
-use lib.Dec.{leb, eqb}
-use borrow.Author.Tests.{lt-ltb, le-ltb, leb-true, eqb-true, ne-eqb}
+use lib.Dec.{leb, ltb, eqb}
+use borrow.Author.Tests.{lt-ltb, le-ltb, leb-true, ltb-true, ltb-false, eqb-true, ne-eqb}
 use lib.ListN.{length, getD, drop, replicate}
 use lib.Seq.{ext-getD, getD-drop}
 use lib.Ieee.{Float, binary64, ofInt, add, mul, nan}
@@ -17,7 +17,7 @@ use Rattle.lists.specs.Each.{each, getD-each, length-each, tabulate, length-tab
 use Rattle.lists.specs.Folds.{foldl-each, foldl-same, each-replicate, each-tabulate}
 use Rattle.lists.specs.Tests.{and-left, and-right}
 use Rattle.doubles.specs.Constants.{zeroF}
-use Rattle.numbers.specs.Same.{samePositive, same-is, none-is-zero, whole-is}
+use Rattle.numbers.specs.Same.{samePositive, same-is, none-is-nan, none-is-zero, whole-is}
 use Rattle.genotype_likelihoods.specs.declared.HaplotypeCallerActivityScoringParams.{HaplotypeCallerActivityScoringParams}
 use Rattle.pileup_words.specs.Words.{observation}
 use Rattle.genotype_likelihoods.specs.Observation.{effectiveQual, qualOf, skipped}
@@ -190,23 +190,36 @@ likelihoods-by-filled s t table n words held few small byte = go (leb n (rowLeng
         (leb-true _ _ (and-left (leb n (rowLength (ploidyOf s))) _ e)) words
     go false e = refl
 
--- a slice that does not begin with the ploidy is not read
-unread : (s : HaplotypeCallerActivityScoringParams) (table : List Float) (n : ℕ) (words : List ℕ) → samePositive (getD table 0 nan) (ploidyNumber s) ≡ false
-    → likelihoodsBy table s n words ≡ likelihoods s n words
+-- a table that is not for the call is not read
+unread : (s : HaplotypeCallerActivityScoringParams) (table : List Float) (n : ℕ) (words : List ℕ) → isFor table s ≡ false → likelihoodsBy table s n words ≡ likelihoods s n words
 unfolding likelihoodsBy serves
-unread s table n words e = rw e (go (leb n (rowLength (ploidyOf s))) (eqb (length table) (tableLength (ploidyOf s))))
+unread s table n words e = rw e (go (leb n (rowLength (ploidyOf s))))
   where
-    go : (b c : Bool) → cond (b && (c && (false && samePositive (getD table 1 nan) (multiplierOf s)))) (tabulate (likelihoodAt (drop heading table) s words (foldl (counted s) 0 words)) n) (likelihoods s n words)
-        ≡ likelihoods s n words
-    go true true = refl
-    go true false = refl
-    go false c = refl
+    go : (b : Bool) → cond (b && false) (tabulate (likelihoodAt (drop heading table) s words (foldl (counted s) 0 words)) n) (likelihoods s n words) ≡ likelihoods s n words
+    go true = refl
+    go false = refl
+
+-- filled for the call's own settings, any slice will do: one that was too short to be filled, or is too long, is not read
+pub likelihoods-by-own : (s : HaplotypeCallerActivityScoringParams) (l : List Float) (n : ℕ) (words : List ℕ) → ploidyOf s ≤ 255 → s .«ref_model_deletion_qual» ≤ 255
+    → likelihoodsBy (filled s l) s n words ≡ likelihoods s n words
+unfolding filled
+likelihoods-by-own s l n words small byte = go (ltb (length l) (tableLength (ploidyOf s))) (ltb-true (length l) (tableLength (ploidyOf s))) (ltb-false (length l) (tableLength (ploidyOf s))) refl
+  where
+    go : (b : Bool) → (b ≡ true → length l < tableLength (ploidyOf s)) → (b ≡ false → tableLength (ploidyOf s) ≤ length l) → ltb (length l) (tableLength (ploidyOf s)) ≡ b
+        → likelihoodsBy (filled s l) s n words ≡ likelihoods s n words
+    go true f g e =
+        let short : filled s l ≡ l = rw e in
+        rw short (unread s l n words (rw (ne-eqb (length l) (tableLength (ploidyOf s)) (λ same. absurd (omega (arith, same, f refl))))))
+    go false f g e = likelihoods-by-filled s s (filled s l) n words (filled-holds s l (g refl)) small small byte
 
 -- so it is by a slice of zeros that nothing was filled into, of any length
 pub likelihoods-by-zeros : (s : HaplotypeCallerActivityScoringParams) (k n : ℕ) (words : List ℕ) → likelihoodsBy (replicate k zeroF) s n words ≡ likelihoods s n words
-unfolding samePositive
-likelihoods-by-zeros s k n words = unread s (replicate k zeroF) n words (go k)
+likelihoods-by-zeros s k n words = unread s (replicate k zeroF) n words (rw (other k) (go (eqb (length (replicate k zeroF)) (tableLength (ploidyOf s)))))
   where
-    go : (k : ℕ) → samePositive (getD (replicate k zeroF) 0 nan) (ploidyNumber s) ≡ false
-    go zero = refl
-    go (suc k) = none-is-zero (ploidyNumber s)
+    other : (k : ℕ) → samePositive (getD (replicate k zeroF) 0 nan) (ploidyNumber s) ≡ false
+    other zero = none-is-nan (ploidyNumber s)
+    other (suc k) = none-is-zero (ploidyNumber s)
+
+    go : (b : Bool) → (b && false) ≡ false
+    go true = refl
+    go false = refl

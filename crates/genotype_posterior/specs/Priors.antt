@@ -6,7 +6,7 @@ use mathlib.Core.List.{List}
 use Prim.Native.Nat.{ℕ, zero, suc, _+_, _-_, _<_, _≤_}
 use native.Mathlib.Omega.{arith}
 use lib.Dec.{ltb, eqb}
-use borrow.Author.Tests.{lt-ltb, le-ltb, eqb-true, ne-eqb}
+use borrow.Author.Tests.{lt-ltb, le-ltb, ltb-true, ltb-false, eqb-true, ne-eqb}
 use lib.ListN.{length, getD, drop, replicate}
 use lib.Seq.{ext-getD, getD-drop}
 use lib.Ieee.{Float, binary64, add, mul, nan}
@@ -14,7 +14,7 @@ use Rattle.elementary.specs.Ln.{log10E}
 use Rattle.lists.specs.Each.{each, length-each, getD-each}
 use Rattle.lists.specs.Tests.{and-left, and-right}
 use Rattle.doubles.specs.Constants.{zeroF}
-use Rattle.numbers.specs.Same.{samePositive, same-is, none-is-zero, whole-is}
+use Rattle.numbers.specs.Same.{samePositive, same-is, none-is-nan, none-is-zero, whole-is}
 use Rattle.log10_sums.specs.Sums.{maxElementIndex}
 use Rattle.genotype_posterior.specs.Posterior.{whole, refPseudocount, snpPseudocount, lnPrior, unnormalized, unnormalizedAll, nonRef, posterior}
 
@@ -145,20 +145,35 @@ pub posterior-filled : (ploidy : ℕ) (h d het sd : Float) (priors gl : List Flo
 unfolding posteriorBy posterior
 posterior-filled ploidy h d het sd priors gl held few small = rw (unnormalized-filled ploidy h d het sd priors gl held few small)
 
+-- a list that is not for the call is not read
+unread : (het sd : Float) (priors gl : List Float) → areFor priors (length gl) het sd ≡ false → posteriorBy priors het sd gl ≡ posterior het sd gl
+unfolding posteriorBy posterior unnormalizedBy
+unread het sd priors gl e = rw e
+
+-- filled for the call's own settings, any slice will do: one that was too short to be filled, or is too long, is not read
+pub posterior-own : (ploidy : ℕ) (het sd : Float) (l gl : List Float) → length gl ≡ ploidy + 1 → ploidy ≤ 255 → posteriorBy (log10Priors ploidy het sd l) het sd gl ≡ posterior het sd gl
+unfolding log10Priors areFor
+posterior-own ploidy het sd l gl n few = go (ltb (length l) (priorsLength ploidy)) (ltb-true (length l) (priorsLength ploidy)) (ltb-false (length l) (priorsLength ploidy)) refl
+  where
+    go : (b : Bool) → (b ≡ true → length l < priorsLength ploidy) → (b ≡ false → priorsLength ploidy ≤ length l) → ltb (length l) (priorsLength ploidy) ≡ b
+        → posteriorBy (log10Priors ploidy het sd l) het sd gl ≡ posterior het sd gl
+    go true f g e =
+        let short : log10Priors ploidy het sd l ≡ l = rw e in
+        rw short (unread het sd l gl (rw (ne-eqb (length l) (heading + length gl) (λ same. absurd (omega (arith, same, n, f refl))))))
+    go false f g e = posterior-filled ploidy het sd het sd (log10Priors ploidy het sd l) gl (filled-priors ploidy het sd l (g refl)) few (omega (arith, n, few))
+
 -- so it is by a slice of zeros that nothing was filled into, of any length
 zeros-for-none : (k n : ℕ) (het sd : Float) → areFor (replicate k zeroF) n het sd ≡ false
-unfolding areFor samePositive
-zeros-for-none zero n het sd = go (eqb 0 (heading + n))
+unfolding areFor
+zeros-for-none k n het sd = rw (other k) (go (eqb (length (replicate k zeroF)) (heading + n)))
   where
-    go : (b : Bool) → (b && false) ≡ false
-    go true = refl
-    go false = refl
-zeros-for-none (suc k) n het sd = rw (none-is-zero (whole (n - 1))) (go (eqb (length (replicate (suc k) zeroF)) (heading + n)))
-  where
+    other : (k : ℕ) → samePositive (getD (replicate k zeroF) 0 nan) (whole (n - 1)) ≡ false
+    other zero = none-is-nan (whole (n - 1))
+    other (suc k) = none-is-zero (whole (n - 1))
+
     go : (b : Bool) → (b && false) ≡ false
     go true = refl
     go false = refl
 
 pub posterior-zeros : (k : ℕ) (het sd : Float) (gl : List Float) → posteriorBy (replicate k zeroF) het sd gl ≡ posterior het sd gl
-unfolding posteriorBy posterior unnormalizedBy
-posterior-zeros k het sd gl = rw (zeros-for-none k (length gl) het sd)
+posterior-zeros k het sd gl = unread het sd (replicate k zeroF) gl (zeros-for-none k (length gl) het sd)

@@ -66,7 +66,11 @@ same-one (fin false m e) (fin false n d) t =
 pub same-is : (x y : Float) → samePositive x y ≡ true → x ≡ y
 same-is x y h = same-one x y (subst T (sym h) tt)
 
--- no number is the same as 0.0 and above 0
+-- no number is the same as a NaN, or as 0.0 and above 0
+pub none-is-nan : (x : Float) → samePositive nan x ≡ false
+unfolding samePositive
+none-is-nan x = refl
+
 pub none-is-zero : (x : Float) → samePositive zeroF x ≡ false
 unfolding samePositive ofBits
 none-is-zero nan = refl

@@ -1,16 +1,11 @@
--- The scoring of a stream by tables that are lent. By those that were filled, for whatever settings, it is the program's own, so every step is.
-use mathlib.Core.Path.{_≡_, refl, ap}
+-- The scoring of a stream by tables that are lent. By those that were filled for its settings of scoring it is the program's own, so every step is.
+use mathlib.Core.Path.{_≡_, refl}
 use mathlib.Core.List.{List}
 use Prim.Native.Nat.{ℕ}
-use lib.Ieee.{Float, ofBits, le, lt, eq}
-use lib.ListN.{length}
-use Rattle.genome.specs.Refusals.{Outcome}
-use Rattle.activity_profile.specs.declared.ActivityProfileState.{ActivityProfileState}
-use Rattle.activity_profile.specs.Verdict.{granted}
-use Rattle.genotype_likelihoods.specs.Settings.{settingsInRange}
+use lib.Ieee.{Float}
 use Rattle.genotype_likelihoods.specs.Settings.{defaults as scoringDefaults}
 use Rattle.contribution_table.specs.Table.{filled}
-use Rattle.activity_scoring.specs.Tables.{priorsFilled, fillVerdict, scoreBy, score-filled}
+use Rattle.activity_scoring.specs.Tables.{priorsFilled, scoreBy, score-own}
 use Rattle.pileup_words.specs.declared.StreamEvent.{StreamEvent}
 use Rattle.pileup_words.specs.declared.StreamEvent.the-variants.{Locus, Observation, Pop, Setting, Remainder, End}
 use Rattle.region_program.specs.Program.{Scoring, pileScore, Reading, Place, atSettings, atLoci, inPile, endedBy, withinPile, actAt, actBy, act}
@@ -18,14 +13,7 @@ use Rattle.region_program.specs.Program.{Scoring, pileScore, Reading, Pl
 abbrev pub tableScore : List Float → List Float → Scoring
 tableScore table priors p words = scoreBy table priors 0 (record { 0 = p }) words scoringDefaults
 
--- the lengths of what a stream is lent
-abbrev pub TABLE : ℕ
-TABLE = 2051
-
-abbrev pub PRIORS : ℕ
-PRIORS = 6
-
--- what filling makes of it
+-- what filling makes of the slices that a stream is lent
 abbrev pub tableFilled : List Float → List Float
 tableFilled l = filled scoringDefaults l
 
@@ -53,13 +41,9 @@ module _ (scoring : Scoring) (same : (p : ℕ) (words : List ℕ) → scoring p 
       go (inPile p i words) Remainder = ended-same p i words s
       go (inPile p i words) End = ended-same p i words s
 
--- the settings of a stream's scoring are in their ranges, and its slices have room
-fills : (l k : List Float) → length l ≡ TABLE → length k ≡ PRIORS → fillVerdict scoringDefaults (length l) (length k) ≡ granted
-unfolding fillVerdict settingsInRange ofBits le lt eq
-fills l k h g = rw (h, g)
+-- filled tables, whatever slices they were filled into
+pub score-of-filled : (l k : List Float) (p : ℕ) (words : List ℕ) → tableScore (tableFilled l) (listFilled k) p words ≡ pileScore p words
+score-of-filled l k p words = score-own scoringDefaults l k 0 (record { 0 = p }) words
 
-pub score-of-filled : (l k : List Float) → length l ≡ TABLE → length k ≡ PRIORS → (p : ℕ) (words : List ℕ) → tableScore (tableFilled l) (listFilled k) p words ≡ pileScore p words
-score-of-filled l k h g p words = score-filled scoringDefaults scoringDefaults l k (fills l k h g) 0 (record { 0 = p }) words
-
-pub act-filled : (l k : List Float) → length l ≡ TABLE → length k ≡ PRIORS → (e : StreamEvent) (s : Reading) → actBy (tableScore (tableFilled l) (listFilled k)) e s ≡ act e s
-act-filled l k h g e s = act-same (tableScore (tableFilled l) (listFilled k)) (score-of-filled l k h g) e s
+pub act-filled : (l k : List Float) (e : StreamEvent) (s : Reading) → actBy (tableScore (tableFilled l) (listFilled k)) e s ≡ act e s
+act-filled l k e s = act-same (tableScore (tableFilled l) (listFilled k)) (score-of-filled l k) e s

@@ -1,5 +1,5 @@
 // The region program over a stream of events: its state, what each event answers, the definition of the whole program,
-// and its laws. The functions that act on events stand above, in pile_end, observation_runs and region_stream.
+// and its laws. The functions that act on events stand above, in stream_profile, observation_runs and region_stream.
 use activity_profile::ActivityProfileRegion;
 use activity_profile::BandPassActivityProfile;
 use genome::Refusal;

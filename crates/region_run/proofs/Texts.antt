@@ -14,7 +14,7 @@ use Rattle.region_program.specs.Program.{Scoring, pileScore, Reading, Printed, 
 use Rattle.region_program.specs.Feeding.{FedBy}
 use Rattle.region_program.specs.declared.RegionStream.{RegionStream}
 use Rattle.region_program.specs.Stream.{start, actsLeft, mostActs}
-use Rattle.region_program.specs.Tables.{TABLE, PRIORS, tableScore, tableFilled, listFilled, score-of-filled}
+use Rattle.region_program.specs.Tables.{tableScore, tableFilled, listFilled, score-of-filled}
 use Rattle.region_program.proofs.Feeding.{fed-prints, fed-same}
 use Rattle.region_feed.specs.declared.Found.{Found}
 use Rattle.region_feed.specs.declared.Found.the-variants.{Nothing, Line, Refused}
@@ -144,10 +144,10 @@ fed-ran scoring remainder _ _ _ (stopped a b words rest later new f) = f later r
 fed-ran scoring remainder _ _ _ (ended a p f) = (p, f, refl)
 
 -- What the calls of a run write, from the start and by tables that were filled, is the text of what the program prints of all its words.
-pub run-text : (remainder : Bool) (cells l k : List Float) (words text : List ℕ) → length l ≡ TABLE → length k ≡ PRIORS
+pub run-text : (remainder : Bool) (cells l k : List Float) (words text : List ℕ)
     → Ran (tableScore (tableFilled l) (listFilled k)) remainder (start cells) words text → text ≡ printedText (program words remainder (start cells))
-run-text remainder cells l k words text h g ran =
+run-text remainder cells l k words text ran =
     let scoring = tableScore (tableFilled l) (listFilled k) in
     let fed = fed-ran scoring remainder (start cells) words text ran in
     sym (fed .2)
-    ∙ ap printedText (fed-prints (start cells) (eventsOf words remainder) (fed .0) (fed-same scoring (score-of-filled l k h g) (start cells) (eventsOf words remainder) (fed .0) (fed .1)))
+    ∙ ap printedText (fed-prints (start cells) (eventsOf words remainder) (fed .0) (fed-same scoring (score-of-filled l k) (start cells) (eventsOf words remainder) (fed .0) (fed .1)))
