@@ -131,14 +131,15 @@ fn print(found: Found, text: &mut [u8; BLOCK], used: usize) -> usize
     ensures { λ n. ⌜ n ≤ blockOf ⌝ }
     ensures { λ n. ⌜ take n (now (text .exit)) ≡ take used (now (text .entry)) ++ foundText found ⌝ }
 {
-    let mut bytes = [0u8; TEXT];
     match found {
         Found::Nothing => used,
         Found::Line(region) => {
+            let mut bytes = [0u8; TEXT];
             let at = region_text::line_text(region, &mut bytes);
             append_from(text, used, &bytes, at)
         }
         Found::Refused(why, index) => {
+            let mut bytes = [0u8; TEXT];
             let at = region_text::refusal_text(why, index, &mut bytes);
             append_from(text, used, &bytes, at)
         }
