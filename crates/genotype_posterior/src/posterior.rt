@@ -6,7 +6,8 @@ ghost use Prim.Native.Nat.{_-_, _<_, _≤_};
 ghost use lib.ListN.{length};
 ghost use Rattle.lists.specs.Each.{each};
 ghost use Rattle.genotype_posterior.specs.Posterior.{logBinomial, lnPrior, unnormalized, nonRef, posterior, posteriorWritten};
-ghost use Rattle.genotype_posterior.specs.Priors.{priorsLength, priorAt, log10Priors, areFor, withPrior, unnormalizedBy, posteriorBy, posteriorWrittenBy};
+ghost use Rattle.genotype_posterior.specs.Priors.{priorsLength, priorAt, log10Priors, areFor, withPrior};
+ghost use Rattle.genotype_posterior.specs.Priors.{unnormalizedBy, posteriorBy, posteriorWrittenBy};
 
 // From the rounded likelihoods of ploidy + 1 genotypes, over which the unnormalized posteriors are written. 0.0, with
 // nothing written, where the reference genotype is the likeliest; 0.0 too where it has the largest posterior.
