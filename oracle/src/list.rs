@@ -21,6 +21,7 @@ pub enum Function {
     PairSum = 15,
     Log10Sum = 16,
     Region = 17,
+    Sheet = 18,
 }
 
 /// One answer: the function's number, how many words follow, and the words of the arguments and then of the results.

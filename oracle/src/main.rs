@@ -1,9 +1,10 @@
 //! Prints lists of the oracle's answers, which the replay programs compare with the proved library's (docs/LISTS.md), and what the region program prints
-//! for the words on standard input; and compares another program's output with that.
+//! for the words on standard input, as a listing or as a sheet; and compares the output of other programs with that.
 //!
 //!     oracle NAME SEED COUNT > FILE
 //!     oracle region < WORDS
-//!     oracle compare SEED COUNT PROGRAM
+//!     oracle sheet < WORDS
+//!     oracle compare SEED COUNT PROGRAM [SHEET]
 //!     oracle panel > FILE
 #![allow(dead_code)]
 #![allow(clippy::all)]
@@ -29,24 +30,25 @@ use std::io::{Read, Write};
 
 fn main() {
     let words: Vec<String> = std::env::args().skip(1).collect();
-    if words == ["region"] {
+    if words == ["region"] || words == ["sheet"] {
         let mut input = Vec::new();
         std::io::stdin().read_to_end(&mut input).expect("standard input is read");
-        print!("{}", region::printed(&input));
+        let run = region::run(&input);
+        print!("{}", if words == ["sheet"] { run.sheet() } else { run.listing() });
         return;
     }
     if words == ["panel"] {
         std::io::stdout().write_all(&streams::panel()).expect("the panel is written");
         return;
     }
-    if words.len() == 4 && words[0] == "compare" {
+    if (4..=5).contains(&words.len()) && words[0] == "compare" {
         let number = |i: usize| words[i].parse::<u64>().expect("a number");
-        let same = streams::compare(&words[3], number(1), number(2));
+        let same = streams::compare(&words[3], words.get(4).map(String::as_str), number(1), number(2));
         std::process::exit(i32::from(!same));
     }
     let number = |i: usize| words.get(i).and_then(|w| w.parse::<u64>().ok());
     let (Some(name), Some(seed), Some(count)) = (words.first(), number(1), number(2)) else {
-        eprintln!("usage: oracle elementary|kernel|runs|calls|clips|scores|sums|streams SEED COUNT > FILE, oracle region < WORDS, oracle compare SEED COUNT PROGRAM, or oracle panel > FILE");
+        eprintln!("usage: oracle elementary|kernel|runs|calls|clips|scores|sums|streams|sheets SEED COUNT > FILE, oracle region < WORDS, oracle sheet < WORDS, oracle compare SEED COUNT PROGRAM [SHEET], or oracle panel > FILE");
         std::process::exit(2);
     };
     let mut out = std::io::BufWriter::new(std::io::stdout().lock());
@@ -59,6 +61,7 @@ fn main() {
         "scores" => scores::score_list(seed, count, &mut out),
         "sums" => scores::sum_list(seed, count, &mut out),
         "streams" => streams::stream_list(seed, count, &mut out),
+        "sheets" => streams::sheet_list(seed, count, &mut out),
         _ => {
             eprintln!("oracle: no list named {name}");
             std::process::exit(2);

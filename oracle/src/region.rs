@@ -11,6 +11,15 @@ const CONTIG: u32 = 0;
 /// A refusal: its number and the index of the word that it names.
 struct Refusal(u64, u64);
 
+/// "start, end, 1 active or 0, padded start, padded end"
+struct Region {
+    start: u32,
+    end: u32,
+    active: bool,
+    padded_start: u32,
+    padded_end: u32,
+}
+
 /// The open pile: the index of its locus word, its position and its words.
 struct Pile {
     index: u64,
@@ -71,14 +80,14 @@ struct Program {
     /// Made at the first locus word, which closes the settings.
     profile: Option<Profile>,
     pile: Option<Pile>,
-    lines: String,
+    regions: Vec<Region>,
 }
 
 impl Program {
     fn new() -> Self {
         let settings =
             Settings { contig_len: MAX_POSITION, distance: 50, threshold: 0.002, max_filter: 50, sigma: 17.0, adaptive: true };
-        Self { settings, min: 50, max: 300, extension: 100, profile: None, pile: None, lines: String::new() }
+        Self { settings, min: 50, max: 300, extension: 100, profile: None, pile: None, regions: Vec::new() }
     }
 
     /// "A pile is scored and added when it ends .. its refusals name its locus word."
@@ -108,10 +117,13 @@ impl Program {
         };
         loop {
             match profile.pop(sizes) {
-                Popped::Region(r) => {
-                    let active = u32::from(r.active);
-                    self.lines += &format!("{} {} {active} {} {}\n", r.start, r.end, r.padded_start, r.padded_end);
-                }
+                Popped::Region(r) => self.regions.push(Region {
+                    start: r.start,
+                    end: r.end,
+                    active: r.active,
+                    padded_start: r.padded_start,
+                    padded_end: r.padded_end,
+                }),
                 Popped::Held | Popped::Empty => return Ok(()),
                 Popped::Refused(n) => return Err(Refusal(n, index)),
             }
@@ -188,13 +200,56 @@ impl Program {
     }
 }
 
-/// What the program prints for this input.
-pub fn printed(input: &[u8]) -> String {
+/// What comes of an input: the regions, and the refusal where one ends it.
+pub struct Printed {
+    regions: Vec<Region>,
+    refusal: Option<Refusal>,
+}
+
+/// Runs the program on this input.
+pub fn run(input: &[u8]) -> Printed {
     let mut program = Program::new();
-    let end = program.run(input);
-    let mut lines = program.lines;
-    if let Err(Refusal(number, index)) = end {
-        lines += &format!("refused {number} {index}\n");
+    let refusal = program.run(input).err();
+    Printed { regions: program.regions, refusal }
+}
+
+impl Printed {
+    /// Document 01: "A line is start, end, 1 active or 0, padded start, padded end, in decimal with single blanks".
+    pub fn listing(&self) -> String {
+        let mut text = String::new();
+        for r in &self.regions {
+            text += &format!("{} {} {} {} {}\n", r.start, r.end, u32::from(r.active), r.padded_start, r.padded_end);
+        }
+        text + &self.refusal_line()
     }
-    lines
+
+    /// Document 02, U1: rows "right-aligned in 10, 10, 1, 10 and 10 columns, with one blank between", "60 rows and then a form feed; the last page may be shorter
+    /// and has the form feed too".
+    pub fn sheet(&self) -> String {
+        let mut text = String::new();
+        for page in self.regions.chunks(60) {
+            for r in page {
+                text += &format!("{:>10} {:>10} {:>1} {:>10} {:>10}\n", r.start, r.end, u32::from(r.active), r.padded_start, r.padded_end);
+            }
+            text.push('\x0C');
+        }
+        text + &self.refusal_line()
+    }
+
+    fn refusal_line(&self) -> String {
+        match self.refusal {
+            Some(Refusal(number, index)) => format!("refused {number} {index}\n"),
+            None => String::new(),
+        }
+    }
+
+    /// The number of the refusal.
+    pub fn refusal(&self) -> Option<usize> {
+        self.refusal.as_ref().map(|r| r.0 as usize)
+    }
+
+    /// How many regions there are.
+    pub fn count(&self) -> usize {
+        self.regions.len()
+    }
 }

@@ -57,15 +57,20 @@ impl Stream {
         all
     }
 
-    fn answer(&self) -> Answer {
-        let mut a = Answer::of(Function::Region).word(self.items.len() as u64).word(self.remainder.len() as u64);
+    /// What the region program prints of it, as a listing or as a sheet.
+    fn answer(&self, function: Function) -> Answer {
+        let mut a = Answer::of(function).word(self.items.len() as u64).word(self.remainder.len() as u64);
         for item in &self.items {
             a = a.word(item.times.into()).word(item.step.into()).word(item.words.len() as u64);
             for &w in &item.words {
                 a = a.word(w.into());
             }
         }
-        let printed = region::printed(&self.bytes());
+        let run = region::run(&self.bytes());
+        let printed = match function {
+            Function::Sheet => run.sheet(),
+            _ => run.listing(),
+        };
         a = a.word(printed.len() as u64);
         for b in printed.bytes() {
             a = a.word(b.into());
@@ -234,10 +239,36 @@ fn full(r: &mut Random) -> Vec<Item> {
     items
 }
 
+/// So many regions of a locus each, popped one by one or all at once, and a refusal behind them or none.
+fn regions(count: u32, at_once: bool, refused: bool) -> Stream {
+    let mut items: Vec<Item> = (1..).zip([1, 1, 3, 0, 0]).map(|(field, value)| one(setting(field, value))).collect();
+    let locus = if at_once { vec![1] } else { vec![1, pop(0)] };
+    items.push(Item { times: count, step: 1, words: locus });
+    items.push(one(pop(1)));
+    if refused {
+        items.push(one(observation(30, 2, 0)));
+    }
+    Stream::of(items)
+}
+
+/// Sheets of no page, of one and of more, their last page short or full, each also with a refusal behind it; and positions that fill their columns.
+fn sheets() -> Vec<Stream> {
+    let mut all = Vec::new();
+    for count in [0, 1, 59, 60, 61, 120, 121] {
+        for refused in [false, true] {
+            all.push(regions(count, count % 2 == 0, refused));
+        }
+    }
+    let last = [0x3fff_fffd, 0x3fff_fffe, 0x3fff_ffff, pop(1)];
+    all.push(Stream::of(last.map(one).to_vec()));
+    all
+}
+
 fn stream(r: &mut Random) -> Stream {
     match r.below(40) {
         0 => Stream::of(deep(r)),
         1 | 2 => Stream::of(full(r)),
+        3 => regions(r.below(200) as u32, r.chance(2), r.chance(2)),
         _ => small(r),
     }
 }
@@ -318,17 +349,27 @@ fn edges() -> Vec<Stream> {
     for (times, words) in [(4_096, vec![1]), (4_097, vec![1]), (4_046, vec![1, alt]), (4_047, vec![1, alt])] {
         all.push(Stream::of(vec![one(setting(1, 5_000)), Item { times, step: 1, words }, one(pop(1))]));
     }
+    all.extend(sheets());
     all
 }
 
 /// The answers of the edges and of `count` streams; the edges have the large ones, of which a list needs few.
 pub fn stream_list(seed: u64, count: u64, out: &mut impl Write) {
-    for s in edges() {
-        s.answer().write(out);
+    list(edges(), Function::Region, seed, count, out);
+}
+
+/// The same as sheets, with the edges of a sheet alone.
+pub fn sheet_list(seed: u64, count: u64, out: &mut impl Write) {
+    list(sheets(), Function::Sheet, seed, count, out);
+}
+
+fn list(first: Vec<Stream>, function: Function, seed: u64, count: u64, out: &mut impl Write) {
+    for s in first {
+        s.answer(function).write(out);
     }
     let r = &mut Random::from_seed(seed);
     for _ in 0..count {
-        small(r).answer().write(out);
+        small(r).answer(function).write(out);
     }
 }
 
@@ -343,38 +384,41 @@ fn output_of(program: &str, input: Vec<u8>) -> String {
     String::from_utf8_lossy(&output.stdout).into_owned()
 }
 
-/// Compares a program's output with the oracle's on the edges and on `count` streams; whether all are the same.
-pub fn compare(program: &str, seed: u64, count: u64) -> bool {
+/// Compares what a program prints as a listing, and another as a sheet, with the oracle, on the edges and on `count` streams; whether all are the same.
+pub fn compare(listing: &str, sheet: Option<&str>, seed: u64, count: u64) -> bool {
     let r = &mut Random::from_seed(seed);
     let fresh = (0..count).map(|_| stream(r));
-    let (mut same, mut asked, mut lines) = (0u64, 0u64, 0usize);
+    let (mut same, mut asked, mut regions, mut pages) = (0u64, 0u64, 0usize, 0usize);
     let mut refused = [0u64; 12];
     for s in edges().into_iter().chain(fresh) {
         let input = s.bytes();
-        let expected = region::printed(&input);
+        let run = region::run(&input);
         asked += 1;
-        if let Some(number) = refusal_in(&expected) {
+        regions += run.count();
+        pages += run.count().div_ceil(60);
+        if let Some(number) = run.refusal() {
             refused[number] += 1;
         }
-        lines += expected.lines().count();
-        let printed = output_of(program, input);
-        if printed == expected {
-            same += 1;
-        } else {
-            let words: Vec<String> = s.words().iter().map(|w| format!("{w:08X}")).collect();
-            println!("differs: {} and {} bytes\nexpected\n{expected}printed\n{printed}", words.join(" "), s.remainder.len());
-        }
+        let as_listing = is_printed(listing, &s, &run.listing());
+        let as_sheet = sheet.map_or(true, |program| is_printed(program, &s, &run.sheet()));
+        same += u64::from(as_listing && as_sheet);
     }
-    println!("{same} of {asked} streams are the same; {} are refused, and {lines} lines are printed", refused.iter().sum::<u64>());
+    let forms = if sheet.is_some() { "as listings and as sheets" } else { "as listings" };
+    println!("{same} of {asked} streams are the same, {forms}: {regions} regions, {pages} pages; {} streams are refused", refused.iter().sum::<u64>());
     let by_number: Vec<String> = (1..12).filter(|&n| refused[n] > 0).map(|n| format!("{n}: {}", refused[n])).collect();
     println!("refusals by number: {}", by_number.join(", "));
     same == asked
 }
 
-/// The number of the refusal that ends an output.
-fn refusal_in(printed: &str) -> Option<usize> {
-    let last = printed.lines().last()?.strip_prefix("refused ")?;
-    last.split(' ').next()?.parse().ok()
+/// Whether a program prints this for a stream; where it does not, both are shown.
+fn is_printed(program: &str, s: &Stream, expected: &str) -> bool {
+    let printed = output_of(program, s.bytes());
+    if printed == expected {
+        return true;
+    }
+    let words: Vec<String> = s.words().iter().map(|w| format!("{w:08X}")).collect();
+    println!("{program} differs: {} and {} bytes\nexpected\n{expected}printed\n{printed}", words.join(" "), s.remainder.len());
+    false
 }
 
 /// The sample of the repository: a panel of one gene, 1,200 loci read by 12 reads each, quiet but for a resistance allele at 300 to 304 carried by half of the

@@ -12,3 +12,4 @@ pub mod Draining
 pub mod Cases
 pub mod Adds
 pub mod Windows
+pub mod OnContig

@@ -9,5 +9,6 @@ pub mod CallRefusals
 pub mod Scores
 pub mod EveryLocus
 pub mod Refused
+pub mod Lines
 pub mod Runs
 pub mod Steps

@@ -11,7 +11,7 @@ use Rattle.lists.specs.Loops.{foldl}
 use Rattle.region_text.specs.Text.{digitZero, digit, digitsOnto, decimal}
 
 -- a number so far, and one digit more
-abbrev read : ℕ → ℕ → ℕ
+abbrev pub read : ℕ → ℕ → ℕ
 read v d = v * 10 + (d - digitZero)
 
 digits-read : (k n : ℕ) (t : List ℕ) → n < 10 ^ k → foldl read 0 (digitsOnto k n t) ≡ foldl read n t

@@ -2,12 +2,13 @@
 // function has a `requires`.
 use answer_list::Answer;
 use libc::STDOUT_FILENO;
+use region_print::Form;
 use region_program::PRIORS;
 use region_program::TABLE;
 ghost use Prim.Native.Nat.{_<_};
 
 // The functions that an answer may be of, and 0 for any other.
-const FUNCTIONS: usize = 18;
+const FUNCTIONS: usize = 19;
 
 // The words of the longest answer.
 const ANSWER: usize = 16384;
@@ -92,7 +93,7 @@ fn replay_next(
 
 // The place of a function in the tallies; 0 is for answers of no function here.
 fn index_of(function: u64) -> usize
-    ensures { λ r. ⌜ r < 18 ⌝ }
+    ensures { λ r. ⌜ r < 19 ⌝ }
 {
     if function < FUNCTIONS as u64 {
         return function as usize;
@@ -102,7 +103,7 @@ fn index_of(function: u64) -> usize
 
 // Counts an answer.
 fn tally(at: usize, same: bool, asked: &mut [u64; FUNCTIONS], agreed: &mut [u64; FUNCTIONS])
-    requires { ⌜ at < 18 ⌝ }
+    requires { ⌜ at < 19 ⌝ }
 {
     asked[at] = std::num::wrapping_add_u64(asked[at], 1);
     if same {
@@ -119,7 +120,10 @@ fn replay(function: u64, words: &[u64], table: &[f64; TABLE], priors: &[f64; PRI
         return replay_profile::replay(function, words);
     }
     if function == 17 {
-        return replay_stream::stream(words, table, priors);
+        return replay_stream::stream(Form::Listing, words, table, priors);
+    }
+    if function == 18 {
+        return replay_stream::stream(Form::Sheet { rows: 0 }, words, table, priors);
     }
     replay_scoring::replay(function, words)
 }
@@ -143,6 +147,7 @@ fn report(asked: [u64; FUNCTIONS], agreed: [u64; FUNCTIONS]) {
     line(b"approximate_log10_sum_log10_pair", asked[15], agreed[15]);
     line(b"log10_sum_log10", asked[16], agreed[16]);
     line(b"region program", asked[17], agreed[17]);
+    line(b"sheet", asked[18], agreed[18]);
     line(b"unknown or malformed", asked[0], agreed[0]);
 }
 

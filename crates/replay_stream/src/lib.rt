@@ -1,56 +1,63 @@
-// Replays an answer of the region program (docs/LISTS.md, 17) through the proved steps and texts, and compares every
-// byte that is printed. A stream is given as items: so many words, so many times over, the first of them raised by a
-// step each time. No public function has a `requires`.
-mod expected;
-
+// Replays an answer of the region program (docs/LISTS.md, 17 and 18) through the proved run, and compares every byte
+// that it prints, as a listing or as a sheet. A stream is given as items: so many words, so many times over, the first of
+// them raised by a step each time. No public function has a `requires`.
+use answer_list::Compared;
 use answer_list::number_at;
 use answer_list::word_at;
-use expected::Expected;
-use region_feed::Found;
+use region_print::Form;
 use region_program::CELLS;
 use region_program::KERNEL;
 use region_program::PILE;
 use region_program::PRIORS;
-use region_program::RegionStream;
 use region_program::TABLE;
+use region_run::BLOCK;
+use region_run::RegionRun;
 ghost use mathlib.Core.Path.{_≡_};
-ghost use Prim.Native.Nat.{_≤_, _<_};
+ghost use Prim.Native.Nat.{_≤_};
 ghost use lib.ListN.{length};
-ghost use Rattle.replay_stream.specs.Replay.{Onward};
 
-// The stream, 0 at its next word and 1 behind it, what is expected of it, and whether it is over.
+// The run, and how far what it printed was compared.
 pub struct Replayed {
-    pub stream: RegionStream,
-    pub at: usize,
-    pub expected: Expected,
-    pub over: bool,
+    pub run: RegionRun,
+    pub compared: Compared,
 }
 
-// Replays the items, and then the end of the input.
-pub fn stream(words: &[u64], table: &[f64; TABLE], priors: &[f64; PRIORS]) -> bool {
+// Whether a run over the items, and then to the end of the input, prints what the answer has.
+pub fn stream(form: Form, words: &[u64], table: &[f64; TABLE], priors: &[f64; PRIORS]) -> bool {
+    let mut text = [0u8; BLOCK];
     let mut pile = [0u32; PILE];
     let mut kernel = [0.0f64; KERNEL];
     let mut cells = [0.0f64; CELLS];
-    let text = text_of(words);
-    let r = start(std::num::wrapping_add_usize(text, 1));
-    let fed = items(r, words, &mut pile, &mut kernel, &mut cells, table, priors);
-    let last = end(
-        fed,
+    let length = text_of(words);
+    let from = std::num::wrapping_add_usize(length, 1);
+    let r = replayed_to(region_run::start(form), Compared::from(from));
+    let fed = items(
+        r,
         words,
+        &mut text,
         &mut pile,
         &mut kernel,
         &mut cells,
         table,
         priors,
     );
-    let expected = last.expected;
-    expected.is_at_end(words, text)
+    let last = end(
+        fed,
+        words,
+        &mut text,
+        &mut pile,
+        &mut kernel,
+        &mut cells,
+        table,
+        priors,
+    );
+    let compared = last.compared;
+    compared.whole(words) & ends_at(words, from, word_at(words, length))
 }
 
-fn start(at: usize) -> Replayed {
-    let stream = region_stream::new_stream();
-    let expected = Expected { at, same: true };
-    replayed_to(stream, 0, expected, false)
+// Whether so many words stand from `from` on.
+fn ends_at(words: &[u64], from: usize, count: u64) -> bool {
+    std::num::wrapping_add_u64(from as u64, count) == words.len() as u64
 }
 
 // How many items there are; an answer has more words than items.
@@ -85,6 +92,7 @@ fn behind(words: &[u64], at: usize) -> usize {
 fn items(
     r: Replayed,
     words: &[u64],
+    text: &mut [u8; BLOCK],
     pile: &mut [u32; PILE],
     kernel: &mut [f64; KERNEL],
     cells: &mut [f64; CELLS],
@@ -96,7 +104,7 @@ fn items(
     let mut at = 2;
     let mut i = 0;
     while i < count {
-        s = item(s, words, at, pile, kernel, cells, table, priors);
+        s = item(s, words, at, text, pile, kernel, cells, table, priors);
         at = behind(words, at);
         i += 1;
     }
@@ -108,6 +116,7 @@ fn item(
     r: Replayed,
     words: &[u64],
     at: usize,
+    text: &mut [u8; BLOCK],
     pile: &mut [u32; PILE],
     kernel: &mut [f64; KERNEL],
     cells: &mut [f64; CELLS],
@@ -120,10 +129,22 @@ fn item(
     let mut raise = 0u32;
     let mut i = 0;
     while i < times {
-        if s.over {
+        let run = s.run;
+        if run.over {
             return s;
         }
-        s = group(s, words, at, raise, pile, kernel, cells, table, priors);
+        s = group(
+            s,
+            words,
+            at,
+            raise,
+            text,
+            pile,
+            kernel,
+            cells,
+            table,
+            priors,
+        );
         raise = std::num::wrapping_add_u32(raise, step);
         i += 1;
     }
@@ -136,6 +157,7 @@ fn group(
     words: &[u64],
     at: usize,
     raise: u32,
+    text: &mut [u8; BLOCK],
     pile: &mut [u32; PILE],
     kernel: &mut [f64; KERNEL],
     cells: &mut [f64; CELLS],
@@ -148,11 +170,12 @@ fn group(
     let mut more = raise;
     let mut j = 0;
     while j < n {
-        if s.over {
+        let run = s.run;
+        if run.over {
             return s;
         }
         let w = std::num::wrapping_add_u32(number_at(words, p), more);
-        s = word(s, words, w, pile, kernel, cells, table, priors);
+        s = word(s, words, w, text, pile, kernel, cells, table, priors);
         more = 0;
         p = std::num::wrapping_add_usize(p, 1);
         j += 1;
@@ -160,11 +183,12 @@ fn group(
     s
 }
 
-// One word, acted on until it is done.
+// One word, fed until it is done; what it prints is compared as it comes.
 fn word(
     r: Replayed,
     words: &[u64],
     w: u32,
+    text: &mut [u8; BLOCK],
     pile: &mut [u32; PILE],
     kernel: &mut [f64; KERNEL],
     cells: &mut [f64; CELLS],
@@ -172,104 +196,72 @@ fn word(
     priors: &[f64; PRIORS],
 ) -> Replayed {
     let one = [w];
-    acted(r, words, &one, pile, kernel, cells, table, priors)
+    fed(r, words, &one, text, pile, kernel, cells, table, priors)
 }
 
-// The words of a short stream.
-fn acted(
+fn fed(
     r: Replayed,
     words: &[u64],
-    fed: &[u32],
+    block: &[u32],
+    text: &mut [u8; BLOCK],
     pile: &mut [u32; PILE],
     kernel: &mut [f64; KERNEL],
     cells: &mut [f64; CELLS],
     table: &[f64; TABLE],
     priors: &[f64; PRIORS],
 ) -> Replayed {
-    let mut s = from_start(r);
-    while s.at < fed.len() {
-        if s.over {
-            return s;
+    let mut run = r.run;
+    let mut compared = r.compared;
+    run.at = 0;
+    while run.at < block.len() {
+        run = region_run::feed(run, block, text, pile, kernel, cells, table, priors);
+        compared = with_text(compared, words, text, run.used);
+        if run.over {
+            return replayed_to(run, compared);
         }
-        s = step(s, words, fed, pile, kernel, cells, table, priors);
     }
-    s
+    replayed_to(run, compared)
 }
 
-fn step(
-    r: Replayed,
-    words: &[u64],
-    fed: &[u32],
-    pile: &mut [u32; PILE],
-    kernel: &mut [f64; KERNEL],
-    cells: &mut [f64; CELLS],
-    table: &[f64; TABLE],
-    priors: &[f64; PRIORS],
-) -> Replayed
-    requires { ⌜ r .at < length (now fed) ⌝ }
-    ensures { λ s. ⌜ Onward r (length (now (fed .entry))) s ⌝ }
-{
-    let stream = r.stream;
-    let expected = r.expected;
-    let next = region_feed::advance(stream, fed, r.at, pile, kernel, cells, table, priors);
-    let t = next.stream;
-    let found = next.found;
-    match found {
-        Found::Nothing => replayed_to(t, next.at, expected, r.over),
-        Found::Line(region) => replayed_to(t, next.at, expected.line(words, region), r.over),
-        Found::Refused(why, index) => replayed_to(
-            t,
-            fed.len(),
-            expected.refusal(words, why, index),
-            true,
-        ),
-    }
-}
-
-fn from_start(r: Replayed) -> Replayed
-    ensures { λ s. ⌜ s .at ≡ 0 ⌝ }
-{
-    let mut s = r;
-    s.at = 0;
-    s
-}
-
-fn replayed_to(stream: RegionStream, at: usize, expected: Expected, over: bool) -> Replayed
-    ensures { λ r. ⌜ r ≡ record { stream = stream; at = at; expected = expected; over = over } ⌝ }
-{
-    Replayed {
-        stream,
-        at,
-        expected,
-        over,
-    }
-}
-
-// The end of the input, where the stream is not over.
+// The end of the input, where the run is not over.
 fn end(
     r: Replayed,
     words: &[u64],
+    text: &mut [u8; BLOCK],
     pile: &mut [u32; PILE],
     kernel: &mut [f64; KERNEL],
     cells: &mut [f64; CELLS],
     table: &[f64; TABLE],
     priors: &[f64; PRIORS],
 ) -> Replayed {
-    if r.over {
+    let run = r.run;
+    let compared = r.compared;
+    if run.over {
         return r;
     }
-    let stream = r.stream;
-    let expected = r.expected;
     let remainder = word_at(words, 1) != 0;
-    let found = region_feed::finish(stream, remainder, pile, kernel, cells, table, priors);
-    match found {
-        Found::Nothing => replayed_to(stream, 0, expected, true),
-        Found::Line(region) => replayed_to(stream, 0, expected.line(words, region), true),
-        Found::Refused(why, index) => replayed_to(
-            stream,
-            0,
-            expected.refusal(words, why, index),
-            true,
-        ),
+    let last = region_run::end(run, remainder, text, pile, kernel, cells, table, priors);
+    replayed_to(last, with_text(compared, words, text, last.used))
+}
+
+fn replayed_to(run: RegionRun, compared: Compared) -> Replayed {
+    Replayed { run, compared }
+}
+
+// With the first n bytes of a text compared, each with a word of the answer.
+fn with_text(compared: Compared, words: &[u64], text: &[u8; BLOCK], n: usize) -> Compared {
+    let mut c = compared;
+    let mut i = 0;
+    while i < BLOCK {
+        if i == n {
+            return c;
+        }
+        c = c.word(words, wide(text[i]));
+        i += 1;
     }
+    c
+}
+
+fn wide(byte: u8) -> u64 {
+    byte as u64
 }

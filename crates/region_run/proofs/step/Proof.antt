@@ -20,6 +20,9 @@ advance-requires c κs = search needs
 print-requires : tie.Need-print-requires
 print-requires c κs = search needs
 
+form-after-requires : tie.Need-form-after-requires
+form-after-requires c κs = search needs
+
 is-over-requires : tie.Need-is-over-requires
 is-over-requires c κs = search needs
 
@@ -29,7 +32,8 @@ run-at-requires c κs = search needs
 returns : tie.Need-returns
 returns c =
     let over = c .before .before in
-    let print = over .before in
+    let form = over .before in
+    let print = form .before in
     let call = print .before .before .before in
     let start = call .before .before .before .before .before .before in
     let a = start .args in
@@ -39,10 +43,10 @@ returns c =
     let after = seen (f .stream) (left .0) (left .1 .0) (left .1 .1 .0) in
     let stops = sym (over .is-over .ensures) ∙ c .before .if1 .taken in
     simp (c .run-at .ensures) (record {
-      new = foundText (f .found);
+      new = foundText (a .r .form) (f .found);
       written = print .print .ensures .1;
-      wrote = found-stopped (tableScore (a .table .now) (a .priors .now)) (f .found) _ after after _ (drop (f .at) (a .words .now)) [] stops (e .1);
-      room = print .print .ensures .0;
+      wrote = found-stopped (tableScore (a .table .now) (a .priors .now)) (f .found) (a .r .form) (form .form-after .result) _ after after _ (drop (f .at) (a .words .now)) [] stops (e .1);
+      room = omega (arith, print .print .ensures .0, start .pre .1);
       done = λ h. refl;
       within = omega arith;
       nearer = omega (arith, start .pre .0, acts-few (f .stream));
@@ -54,7 +58,8 @@ run-at-requires-2 c κs = search needs
 returns-2 : tie.Need-returns-2
 returns-2 c =
     let over = c .before .before in
-    let print = over .before in
+    let form = over .before in
+    let print = form .before in
     let call = print .before .before .before in
     let start = call .before .before .before .before .before .before in
     let a = start .args in
@@ -62,11 +67,11 @@ returns-2 c =
     let e = call .advance .ensures in
     let goes = sym (over .is-over .ensures) ∙ c .before .if1 .left in
     let scoring = tableScore (a .table .now) (a .priors .now) in
-    simp (c .run-at2 .ensures) (record {
-      new = foundText (f .found);
+    simp (c .run-at2 .ensures, form .form-after .ensures) (record {
+      new = foundText (a .r .form) (f .found);
       written = print .print .ensures .1;
-      wrote = found-goes scoring (f .found) _ _ _ _ goes (e .1);
-      room = print .print .ensures .0;
+      wrote = found-goes scoring (f .found) (a .r .form) _ _ _ _ goes (e .1);
+      room = omega (arith, print .print .ensures .0, start .pre .1);
       done = λ h. absurd (false≢true h);
       within = e .0 .within (omega (arith, start .pre .0));
       nearer = goes-nearer (f .found) _ _ _ _ goes (e .0 .nearer (start .pre .0));
@@ -78,6 +83,7 @@ step-spec =
     (tie.spec
     advance-requires
     print-requires
+    form-after-requires
     is-over-requires
     run-at-requires
     returns

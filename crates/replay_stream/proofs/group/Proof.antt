@@ -5,10 +5,10 @@ use Rattle.replay_stream.proofs.group.Statement.{statement}
 use Rattle.replay_stream.proofs.group.Tie as tie
 
 abbrev Inv-loop : tie.InvT-loop
-Inv-loop words at raise pile₀ kernel₀ cells₀ table priors n s₀ p₀ more₀ j₀ pile kernel cells s p more j = Unit {0}
+Inv-loop words at raise text₀ pile₀ kernel₀ cells₀ table priors n s₀ p₀ more₀ j₀ text pile kernel cells s p more j = Unit {0}
 
 abbrev μ-loop : tie.MeasureT-loop
-μ-loop words at raise pile₀ kernel₀ cells₀ table priors n s₀ p₀ more₀ j₀ pile kernel cells s p more j = n - j
+μ-loop words at raise text₀ pile₀ kernel₀ cells₀ table priors n s₀ p₀ more₀ j₀ text pile kernel cells s p more j = n - j
 
 wrapping-add-usize-requires : tie.Need-wrapping-add-usize-requires Inv-loop μ-loop
 wrapping-add-usize-requires c κs = search needs

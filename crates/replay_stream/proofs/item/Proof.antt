@@ -5,10 +5,10 @@ use Rattle.replay_stream.proofs.item.Statement.{statement}
 use Rattle.replay_stream.proofs.item.Tie as tie
 
 abbrev Inv-loop : tie.InvT-loop
-Inv-loop words at pile₀ kernel₀ cells₀ table priors times step s₀ raise₀ i₀ pile kernel cells s raise i = Unit {0}
+Inv-loop words at text₀ pile₀ kernel₀ cells₀ table priors times step s₀ raise₀ i₀ text pile kernel cells s raise i = Unit {0}
 
 abbrev μ-loop : tie.MeasureT-loop
-μ-loop words at pile₀ kernel₀ cells₀ table priors times step s₀ raise₀ i₀ pile kernel cells s raise i = times - i
+μ-loop words at text₀ pile₀ kernel₀ cells₀ table priors times step s₀ raise₀ i₀ text pile kernel cells s raise i = times - i
 
 number-at-requires : tie.Need-number-at-requires Inv-loop μ-loop
 number-at-requires c κs = search needs

@@ -5,10 +5,10 @@ use Rattle.replay_stream.proofs.items.Statement.{statement}
 use Rattle.replay_stream.proofs.items.Tie as tie
 
 abbrev Inv-loop : tie.InvT-loop
-Inv-loop words pile₀ kernel₀ cells₀ table priors count s₀ at₀ i₀ pile kernel cells s at i = Unit {0}
+Inv-loop words text₀ pile₀ kernel₀ cells₀ table priors count s₀ at₀ i₀ text pile kernel cells s at i = Unit {0}
 
 abbrev μ-loop : tie.MeasureT-loop
-μ-loop words pile₀ kernel₀ cells₀ table priors count s₀ at₀ i₀ pile kernel cells s at i = count - i
+μ-loop words text₀ pile₀ kernel₀ cells₀ table priors count s₀ at₀ i₀ text pile kernel cells s at i = count - i
 
 count-of-requires : tie.Need-count-of-requires Inv-loop μ-loop
 count-of-requires c κs = search needs
