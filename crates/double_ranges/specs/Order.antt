@@ -184,3 +184,27 @@ lt-at-most x y z h p = go (lt x z) refl
     go : (b : Bool) → lt x z ≡ b → b ≡ true
     go true e = refl
     go false e = absurd (false≢true (sym (at-most-not-lt x y (at-most-trans y z x p (at-most-of-not-lt x z (number-below x y below) (number-above y z p) e))) ∙ h))
+
+-- what is above another is a number, and so not below itself; and a NaN is below nothing
+pub lt-self : (x : Float) → lt x x ≡ false
+lt-self x = go (lt x x) refl
+  where
+    go : (b : Bool) → lt x x ≡ b → b ≡ false
+    go true e = sym e ∙ at-most-not-lt x x (at-most-refl x (number-above x x (at-most-of-lt x x e)))
+    go false e = refl
+
+-- y is above x, and z is not: y is not at most z
+pub not-le-lower : (x y z : Float) → lt x y ≡ true → lt x z ≡ false → le y z ≡ false
+not-le-lower x y z h n = go (le y z) refl
+  where
+    go : (b : Bool) → le y z ≡ b → b ≡ false
+    go true e = absurd (true≢false (sym (lt-at-most x y z h (at-most-of-le y z (subst T (sym e) tt))) ∙ n))
+    go false e = refl
+
+-- and y is above z, where z is a number
+pub above-lower : (x y z : Float) → Number z → lt x y ≡ true → lt x z ≡ false → lt z y ≡ true
+above-lower x y z p h n = go (lt z y) refl
+  where
+    go : (b : Bool) → lt z y ≡ b → b ≡ true
+    go true e = refl
+    go false e = absurd (true≢false (sym (lt-at-most x y z h (at-most-of-not-lt z y p (number-above x y (at-most-of-lt x y h)) e)) ∙ n))

@@ -82,6 +82,12 @@ module _ {A : Type 0} where
   each-same f g [] h = refl
   each-same f g (x ∷ l) h = rw (h 0 x) (ap (λ (t : List A). g 0 x ∷ t) (each-same (λ k. f (suc k)) (λ k. g (suc k)) l (λ k y. h (suc k) y)))
 
+  -- one rule behind another
+  pub each-each : (f g : ℕ → A → A) (l : List A) → each g (each f l) ≡ each (λ k x. g k (f k x)) l
+  unfolding each upTo
+  each-each f g [] = refl
+  each-each f g (x ∷ l) = ap (λ (t : List A). g 0 (f 0 x) ∷ t) (each-each (λ k. f (suc k)) (λ k. g (suc k)) l)
+
   -- a part of an array of one value
   pub take-replicate : (n m : ℕ) (a : A) → n ≤ m → take n (replicate m a) ≡ replicate n a
   take-replicate zero m a h = refl

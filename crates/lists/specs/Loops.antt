@@ -1,6 +1,6 @@
 -- Loops as definitions, each with the law of one turn and the law of the end.
 -- Assumes nothing.
-use mathlib.Core.Path.{_≡_, refl}
+use mathlib.Core.Path.{_≡_, refl, _∙_}
 use mathlib.Core.Bool.{Bool, true, false, cond}
 use mathlib.Core.List.{List, [], _∷_}
 use Prim.Native.Nat.{ℕ, zero, suc, _+_, _-_, _<_, _≤_}
@@ -59,6 +59,14 @@ module _ {S : Type 0} where
     where
       along-suc : (f : ℕ → S → S) (i k : ℕ) (s : S) → along f (suc i) k (f i s) ≡ along f i (suc k) s
       along-suc f i k s = refl
+
+  -- k turns at once
+  pub along-turns : (f : ℕ → S → S) (i k n : ℕ) (s : S) → i + k ≤ n → along f (i + k) (n - (i + k)) (along f i k s) ≡ along f i (n - i) s
+  unfolding along
+  along-turns f i zero n s h = rw add-zero
+  along-turns f i (suc k) n s h =
+      let e : i + suc k ≡ suc i + k = omega arith in
+      rw e (along-turns f (suc i) k n (f i s) (omega arith) ∙ rw (← add-one i) (along-turn f i n s (omega arith)))
 
   pub along-end : (f : ℕ → S → S) (i n : ℕ) (s : S) → n ≤ i → along f i (n - i) s ≡ s
   unfolding along
