@@ -1,5 +1,5 @@
 /* Calls of the part that a maker may get wrong, and what they answer: tables that are stale, unfilled, short or long, kernels without room, NULL with a length
- * of 0, memory that holds NaNs. part/examples.sh runs it. Prints each answer that is not the one that part/region_picker.h promises, and then how many are. */
+ * of 0, memory that holds NaNs, peaks of every content. part/examples.sh runs it. Prints each answer that is not the one that part/region_picker.h promises, and then how many are. */
 #include "region_picker.h"
 #include <stdio.h>
 #include <string.h>
@@ -91,23 +91,74 @@ static void kernels(void) {
 static void payloads(void) {
     static const uint64_t patterns[4] = {0x7ff8000000000000u, 0x7ff8deadbeef0001u, 0xfff8000000000007u, 0x7ff0000000000001u};
     double cells[4], kernel[4];
-    uint32_t profile[REGION_PICKER_PROFILE] = {0, 100, 1, 0, 1, 4, 4}, region[REGION_PICKER_REGION] = {7, 7, 7, 7, 7, 7, 7};
+    uint32_t profile[REGION_PICKER_PROFILE] = {0, 100, 1, 0, 1, 4, 4}, region[REGION_PICKER_REGION] = {7, 7, 7, 7, 7, 7, 7, 7};
+    double peak = 0.0;
     memcpy(cells, patterns, sizeof cells);
     memcpy(kernel, patterns, sizeof kernel);
+    memcpy(&peak, &patterns[1], sizeof peak);
     check("an add off the contig", region_picker_add(profile, 0.002, 0, 101, 0.5, 0.0, true, 3, kernel, 1, cells, 4) == 7);
     check("an add without room", region_picker_add(profile, 0.002, 0, 5, 0.5, 0.0, false, 0, kernel, 1, cells, 4) == 10);
-    check("a pop of size 0", region_picker_pop(profile, 0.002, 0, 0, 4, true, cells, 4, region) == 11);
-    check("a held pop", region_picker_pop(profile, 0.002, 0, 1, 9, false, cells, 4, region) == REGION_PICKER_HELD);
+    check("a pop of size 0", region_picker_pop(profile, 0.002, 0, 0, 4, true, cells, 4, region, &peak) == 11);
+    check("a held pop", region_picker_pop(profile, 0.002, 0, 1, 9, false, cells, 4, region, &peak) == REGION_PICKER_HELD);
+    profile[REGION_PICKER_COUNT] = 0;
+    check("a broken record", region_picker_pop(profile, 0.002, 0, 1, 9, true, cells, 4, region, &peak) == 5);
+    profile[REGION_PICKER_REGION_START] = profile[REGION_PICKER_LAST_INPUT] = 0;
+    check("an empty profile", region_picker_pop(profile, 0.002, 0, 1, 9, true, cells, 4, region, &peak) == REGION_PICKER_EMPTY);
+    profile[REGION_PICKER_COUNT] = profile[REGION_PICKER_LAST_INPUT] = 4;
+    profile[REGION_PICKER_REGION_START] = 1;
     check("a refused making", region_picker_make(profile, 0, 100, 1, 2.0, 1, 17.0, false, cells, 4, kernel, 4) == 1);
     check("a refused filling", region_picker_fill_tables(cells, 4, kernel, 4, 10, 2, 0.001, 0.01, 30, 1.0, false) == 2);
     check("the payloads stay", memcmp(cells, patterns, sizeof cells) == 0 && memcmp(kernel, patterns, sizeof kernel) == 0);
-    check("nothing else is written", profile[REGION_PICKER_COUNT] == 4 && region[0] == 7 && region[6] == 7);
+    check("nothing else is written", profile[REGION_PICKER_COUNT] == 4 && region[0] == 7 && region[6] == 7 && region[7] == 7);
+    check("the peak's place stays", memcmp(&peak, &patterns[1], sizeof peak) == 0);
+}
+
+/* whether a forced pop of these patterns hands out the first `size` of them, with its peak at index `at`, to the byte */
+static bool has_peak(const uint64_t *patterns, uint32_t count, uint32_t last, uint32_t max, uint32_t size, uint32_t at) {
+    double cells[9], peak = 0.0;
+    uint32_t profile[REGION_PICKER_PROFILE] = {0, 100, 1, 8, 11, last, 0}, region[REGION_PICKER_REGION];
+    profile[REGION_PICKER_COUNT] = count;
+    memcpy(cells, patterns, count * sizeof *cells);
+    return region_picker_pop(profile, 0.05, 0, 1, max, true, cells, count, region, &peak) == 0 && region[REGION_PICKER_START] == 11 &&
+           region[REGION_PICKER_END] == 10 + size && region[REGION_PICKER_PEAK_POSITION] == 11 + at && memcmp(&peak, &patterns[at], sizeof peak) == 0;
+}
+
+/* Peaks are copies, payload and sign included: the first cell leads, even a NaN, and a later one only if strictly above. */
+static void peaks(void) {
+    enum { MOST = 9 };
+    const uint64_t low = 0x3f847ae147ae147bu /* 0.01 */, high = 0x3fe0000000000000u /* 0.5 */, higher = 0x3fe8000000000000u /* 0.75 */;
+    const uint64_t quiet = 0x7ff8deadbeef0001u, negative = 0xfff8000000000007u, signalling = 0x7ff0000000000001u, infinite = 0x7ff0000000000000u;
+    uint64_t cells[MOST];
+    uint32_t i, n;
+    cells[0] = signalling, cells[1] = low, cells[2] = quiet;
+    check("a NaN in front is the peak", has_peak(cells, 3, 13, 9, 3, 0));
+    cells[0] = low, cells[1] = negative, cells[2] = 0x3f90000000000000u;
+    check("a NaN further on is not", has_peak(cells, 3, 13, 9, 3, 2));
+    cells[0] = 0x8000000000000000u, cells[1] = 0, cells[2] = 0x8000000000000000u;
+    check("0.0 does not overtake -0.0", has_peak(cells, 3, 13, 9, 3, 0));
+    cells[0] = high, cells[1] = infinite, cells[2] = infinite;
+    check("infinities", has_peak(cells, 3, 13, 9, 3, 1));
+    cells[0] = high, cells[1] = low, cells[2] = higher;
+    check("not behind the region's end", has_peak(cells, 3, 13, 9, 1, 0));
+    cells[0] = high, cells[1] = high, cells[2] = higher;
+    check("not among trimmed cells", has_peak(cells, 3, 12, 9, 2, 0));
+    check("not behind max", has_peak(cells, 3, 13, 2, 2, 0));
+    for (n = 1; n <= MOST; n++) {
+        for (i = 0; i < n; i++) {
+            uint32_t k;
+            for (k = 0; k < MOST; k++) cells[k] = k < i ? high : higher;
+            check("the first of the highest, at every place", has_peak(cells, n, 10 + n, 9, n, i));
+            for (k = 0; k < MOST; k++) cells[k] = k == i ? low : 0;
+            check("the only one, in a region that is not active", has_peak(cells, n, 10 + n, 9, n, i));
+        }
+    }
 }
 
 int main(void) {
     tables();
     kernels();
     payloads();
+    peaks();
     printf("%d right, %d wrong\n", right, wrong);
     return wrong != 0;
 }

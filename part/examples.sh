@@ -1,5 +1,6 @@
 #!/usr/bin/env bash
-# Builds the part, and the examples in C and in Rust over it, and runs both and the region program on the same words: all three print the same. Then runs checks.c.
+# Builds the part, and the examples in C and in Rust over it, and runs both and the region program on the same words: all three print the same, and the examples the same
+# with peaks. Then runs checks.c.
 # examples.sh [WORDS ...]; without arguments the samples, a stream that is refused, and one that ends within a word.
 set -e
 cd "$(dirname "$0")/.."
@@ -20,6 +21,10 @@ for file in "${words[@]}"; do
         "$program" < "$file" > target/example.lines
         cmp target/region.lines target/example.lines || { echo "$program differs from region on $file"; exit 1; }
     done
+    target/regions peaks < "$file" > target/region.peaks
+    part/examples/rust/target/release/regions peaks < "$file" | cmp target/region.peaks - || { echo "the peaks of C and Rust differ on $file"; exit 1; }
+    # without the peaks, which are two numbers behind the five of a region, a line is what it was
+    sed 's/^\(\([0-9]* \)\{4\}[0-9]*\) [0-9]* [0-9.]*$/\1/' target/region.peaks | cmp target/region.lines - || { echo "the lines with peaks differ on $file"; exit 1; }
     echo "$file: $(wc -l < target/region.lines) lines, the same from region, C and Rust"
 done
 gcc -std=c99 -O2 -Wall -Wextra -pedantic -o target/checks part/checks.c target/staticlib/libregion_picker.a

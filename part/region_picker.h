@@ -45,7 +45,7 @@ enum {
     REGION_PICKER_PROFILE /* how many numbers these are */
 };
 
-/* A region is seven numbers. Positions count from 1, and both ends are inside. */
+/* A region is eight numbers. Positions count from 1, and both ends are inside. */
 enum {
     REGION_PICKER_REGION_CONTIG,
     REGION_PICKER_START,
@@ -54,7 +54,8 @@ enum {
     REGION_PICKER_PADDED_START,
     REGION_PICKER_PADDED_END,
     REGION_PICKER_EXTENSION,
-    REGION_PICKER_REGION /* how many numbers these are */
+    REGION_PICKER_PEAK_POSITION, /* the locus with the highest cell, from start to end */
+    REGION_PICKER_REGION         /* how many numbers these are */
 };
 
 /* Makes an empty profile. contig_length 1 to 1,073,741,823; max_prob_propagation_distance 0 to 1,000,000, and at least 1 if no locus may be lost;
@@ -75,9 +76,11 @@ uint32_t region_picker_add(uint32_t profile[REGION_PICKER_PROFILE], double activ
                            double original_active_prob, bool has_clips, uint32_t clip_bases, const double *kernel, size_t kernel_length, double *cells,
                            size_t cells_length);
 
-/* Pops the next region. Writes `region` on 0 alone, and then the profile and the cells too. Forced, it never answers held. Refuses 5, then 11. */
+/* Pops the next region. Writes `region` and `peak` on 0 alone, and then the profile and the cells too. The peak is the highest cell of the region's loci, as the
+ * call found them, bit for bit: the first of equals, and of a region whose first cell is a NaN that NaN, whatever follows; its locus is
+ * region[REGION_PICKER_PEAK_POSITION]. A region that is not active has a peak too. Forced, it never answers held. Refuses 5, then 11. */
 uint32_t region_picker_pop(uint32_t profile[REGION_PICKER_PROFILE], double active_prob_threshold, uint32_t assembly_region_extension, uint32_t min_region_size,
-                           uint32_t max_region_size, bool forced, double *cells, size_t cells_length, uint32_t region[REGION_PICKER_REGION]);
+                           uint32_t max_region_size, bool forced, double *cells, size_t cells_length, uint32_t region[REGION_PICKER_REGION], double *peak);
 
 /* How many doubles the table of a ploidy has: 512 * (ploidy / 4 * 4 + 4) + 3, so 2,051 for ploidy 1 to 3. */
 size_t region_picker_table_length(uint8_t sample_ploidy);

@@ -49,6 +49,7 @@ extern "C" {
         cells: *mut f64,
         cells_length: usize,
         region: *mut u32,
+        peak: *mut f64,
     ) -> u32;
     pub fn region_picker_table_length(ploidy: u8) -> usize;
     pub fn region_picker_priors_length(ploidy: u8) -> usize;

@@ -35,6 +35,13 @@ pub struct Region {
     pub extension: u32,
 }
 
+/// Document 02, U2: the peak of a region, which the Rust does not have.
+#[derive(Clone, Copy, Debug)]
+pub struct Peak {
+    pub cell: f64,
+    pub pos: u32,
+}
+
 #[derive(Clone, Copy, PartialEq, Debug)]
 pub struct Sizes {
     pub extension: u32,
@@ -43,9 +50,9 @@ pub struct Sizes {
     pub forced: bool,
 }
 
-#[derive(Clone, Copy, PartialEq, Debug)]
+#[derive(Clone, Copy, Debug)]
 pub enum Popped {
-    Region(Region),
+    Region(Region, Peak),
     Held,
     Empty,
     Refused(u64),
@@ -167,6 +174,8 @@ pub fn pop(record: &mut Record, sizes: Sizes, cells: &mut [f64]) -> Popped {
         padded_end: (end + u64::from(sizes.extension)).min(u64::from(r.contig_len)) as u32,
         extension: sizes.extension,
     };
+    let peak = highest(&cells[..size]);
+    let peak = Peak { cell: cells[peak], pos: (u64::from(r.start) + peak as u64) as u32 };
     let left = held - size;
     for i in 0..r.count as usize {
         cells[i] = if i < left { cells[size + i] } else { 0.0 };
@@ -176,7 +185,12 @@ pub fn pop(record: &mut Record, sizes: Sizes, cells: &mut [f64]) -> Popped {
     } else {
         Record { start: (u64::from(r.start) + size as u64) as u32, count: left as u32, ..r }
     };
-    Popped::Region(region)
+    Popped::Region(region, peak)
+}
+
+/// Document 02, U2: "the first cell leads, even a NaN, and a later one only if strictly above the leader".
+fn highest(cells: &[f64]) -> usize {
+    (1..cells.len()).fold(0, |leader, i| if cells[i] > cells[leader] { i } else { leader })
 }
 
 /// "from index max − 1 down to min − 1, a cell qualifies if it is neither first nor last held, at most its right neighbour and strictly below its

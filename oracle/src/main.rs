@@ -5,6 +5,7 @@
 //!     oracle region < WORDS
 //!     oracle sheet < WORDS
 //!     oracle compare SEED COUNT PROGRAM [SHEET]
+//!     oracle peaks SEED COUNT PROGRAM
 //!     oracle panel > FILE
 #![allow(dead_code)]
 #![allow(clippy::all)]
@@ -27,6 +28,7 @@ mod streams;
 
 use stand_ins::{bio_ids, read_binding, read_model, read_projection};
 use std::io::{Read, Write};
+use streams::Form;
 
 fn main() {
     let words: Vec<String> = std::env::args().skip(1).collect();
@@ -41,14 +43,15 @@ fn main() {
         std::io::stdout().write_all(&streams::panel()).expect("the panel is written");
         return;
     }
-    if (4..=5).contains(&words.len()) && words[0] == "compare" {
+    if words.len() >= 4 && (words[0] == "compare" || words[0] == "peaks") {
         let number = |i: usize| words[i].parse::<u64>().expect("a number");
-        let same = streams::compare(&words[3], words.get(4).map(String::as_str), number(1), number(2));
-        std::process::exit(i32::from(!same));
+        let second = if words[0] == "peaks" { Some((words[3].as_str(), Form::Peaks)) } else { words.get(4).map(|w| (w.as_str(), Form::Sheet)) };
+        let programs: Vec<_> = std::iter::once((words[3].as_str(), Form::Listing)).chain(second).collect();
+        std::process::exit(i32::from(!streams::compare(&programs, number(1), number(2))));
     }
     let number = |i: usize| words.get(i).and_then(|w| w.parse::<u64>().ok());
     let (Some(name), Some(seed), Some(count)) = (words.first(), number(1), number(2)) else {
-        eprintln!("usage: oracle elementary|kernel|runs|calls|clips|scores|sums|streams|sheets SEED COUNT > FILE, oracle region < WORDS, oracle sheet < WORDS, oracle compare SEED COUNT PROGRAM [SHEET], or oracle panel > FILE");
+        eprintln!("usage: oracle elementary|kernel|runs|calls|clips|scores|sums|streams|sheets SEED COUNT > FILE, oracle region < WORDS, oracle sheet < WORDS, oracle compare SEED COUNT PROGRAM [SHEET], oracle peaks SEED COUNT PROGRAM, or oracle panel > FILE");
         std::process::exit(2);
     };
     let mut out = std::io::BufWriter::new(std::io::stdout().lock());

@@ -1,6 +1,6 @@
 //! The region program as document 01 words it: words in, lines out. Scores are the Rust's; each accepted add and each pop goes through the Rust's profile
 //! and through document 01's rules, which have to agree.
-use crate::document::{self, Popped, Record, Sizes, State};
+use crate::document::{self, Peak, Popped, Record, Sizes, State};
 use crate::refusals::{scoring_refusal, Scoring, Settings, MAX_POSITION};
 use crate::runs::Rust;
 use crate::scores::score;
@@ -18,6 +18,15 @@ struct Region {
     active: bool,
     padded_start: u32,
     padded_end: u32,
+    /// Document 02, U2; it is not printed.
+    peak: Peak,
+}
+
+impl Region {
+    /// Document 01: "A line is start, end, 1 active or 0, padded start, padded end, in decimal with single blanks".
+    fn line(&self) -> String {
+        format!("{} {} {} {} {}", self.start, self.end, u32::from(self.active), self.padded_start, self.padded_end)
+    }
 }
 
 /// The open pile: the index of its locus word, its position and its words.
@@ -63,7 +72,7 @@ impl Profile {
     fn pop(&mut self, sizes: Sizes) -> Popped {
         let popped = document::pop(&mut self.record, sizes, &mut self.cells);
         match popped {
-            Popped::Region(region) => assert_eq!(self.rust.pop(sizes), Some(region)),
+            Popped::Region(region, _) => assert_eq!(self.rust.pop(sizes), Some(region)),
             Popped::Held | Popped::Empty => assert_eq!(self.rust.pop(sizes), None),
             Popped::Refused(_) => {}
         }
@@ -117,12 +126,13 @@ impl Program {
         };
         loop {
             match profile.pop(sizes) {
-                Popped::Region(r) => self.regions.push(Region {
+                Popped::Region(r, peak) => self.regions.push(Region {
                     start: r.start,
                     end: r.end,
                     active: r.active,
                     padded_start: r.padded_start,
                     padded_end: r.padded_end,
+                    peak,
                 }),
                 Popped::Held | Popped::Empty => return Ok(()),
                 Popped::Refused(n) => return Err(Refusal(n, index)),
@@ -214,13 +224,16 @@ pub fn run(input: &[u8]) -> Printed {
 }
 
 impl Printed {
-    /// Document 01: "A line is start, end, 1 active or 0, padded start, padded end, in decimal with single blanks".
+    /// A line for each region.
     pub fn listing(&self) -> String {
-        let mut text = String::new();
-        for r in &self.regions {
-            text += &format!("{} {} {} {} {}\n", r.start, r.end, u32::from(r.active), r.padded_start, r.padded_end);
-        }
-        text + &self.refusal_line()
+        let lines: String = self.regions.iter().map(|r| r.line() + "\n").collect();
+        lines + &self.refusal_line()
+    }
+
+    /// With the position of the peak and the peak behind each line, as the part's examples print them.
+    pub fn peaks(&self) -> String {
+        let lines: String = self.regions.iter().map(|r| format!("{} {} {:.6}\n", r.line(), r.peak.pos, r.peak.cell)).collect();
+        lines + &self.refusal_line()
     }
 
     /// Document 02, U1: rows "right-aligned in 10, 10, 1, 10 and 10 columns, with one blank between", "60 rows and then a form feed; the last page may be shorter

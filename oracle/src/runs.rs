@@ -80,10 +80,10 @@ fn sizes_words(answer: Answer, s: Sizes) -> Answer {
     answer.word(s.extension.into()).word(s.min.into()).word(s.max.into()).word(s.forced.into())
 }
 
-/// 0 and the region; 1, held; 2, empty; 3 and the refusal's number.
+/// 0, the region and its peak; 1, held; 2, empty; 3 and the refusal's number.
 fn popped_words(answer: Answer, p: Popped) -> Answer {
     match p {
-        Popped::Region(r) => answer
+        Popped::Region(r, peak) => answer
             .word(0)
             .word(r.contig.into())
             .word(r.start.into())
@@ -91,7 +91,9 @@ fn popped_words(answer: Answer, p: Popped) -> Answer {
             .word(r.active.into())
             .word(r.padded_start.into())
             .word(r.padded_end.into())
-            .word(r.extension.into()),
+            .word(r.extension.into())
+            .double(peak.cell)
+            .word(peak.pos.into()),
         Popped::Held => answer.word(1),
         Popped::Empty => answer.word(2),
         Popped::Refused(n) => answer.word(3).word(n),
@@ -182,7 +184,7 @@ fn run(r: &mut Random, calls: u64, out: &mut impl Write) {
             answer = sizes_words(answer.word(1), sizes);
             let popped = document::pop(&mut record, sizes, &mut cells);
             match popped {
-                Popped::Region(region) => assert_eq!(rust.pop(sizes), Some(region)),
+                Popped::Region(region, _) => assert_eq!(rust.pop(sizes), Some(region)),
                 Popped::Held | Popped::Empty => assert_eq!(rust.pop(sizes), None),
                 Popped::Refused(_) => {}
             }
@@ -277,29 +279,32 @@ fn single_add(r: &mut Random, out: &mut impl Write) {
 
 fn single_pop(r: &mut Random, out: &mut impl Write) {
     let n = r.below(9) as usize;
-    let mut record = any_record(r, n);
-    let mut cells: Vec<f64> = (0..n).map(|_| any_cell(r)).collect();
+    let record = any_record(r, n);
+    let cells: Vec<f64> = (0..n).map(|_| any_cell(r)).collect();
     let mut sizes = some_sizes(r);
     sizes.forced = r.chance(2);
     if r.chance(20) {
         sizes.max = u32::MAX;
     }
+    pop_answer(record, sizes, cells, out);
+}
+
+fn pop_answer(mut record: Record, sizes: Sizes, mut cells: Vec<f64>, out: &mut impl Write) {
     let answer = record_words(Answer::of(Function::Pop), &record);
     let answer = sizes_words(answer, sizes).doubles(&cells);
     let popped = document::pop(&mut record, sizes, &mut cells);
     record_words(popped_words(answer, popped), &record).elements(&cells).write(out);
 }
 
-/// A pop of document 01's examples: threshold 0.05, max 4, min 2, distance 1, F 0, L 100, start 1, last input at the last cell, unforced.
-fn example_pop(cells: &[f64], min: u32, forced: bool, out: &mut impl Write) {
+/// A record of document 01's examples: threshold 0.05, distance 1, F 0, L 100, start 1, last input at the last cell.
+fn example(cells: &[f64]) -> Record {
     let n = cells.len() as u32;
-    let mut record = Record { contig: 1, contig_len: 100, distance: 1, threshold: 0.05, filter: 0, start: 1, last: n, count: n };
-    let mut cells = cells.to_vec();
-    let sizes = Sizes { extension: 0, min, max: 4, forced };
-    let answer = record_words(Answer::of(Function::Pop), &record);
-    let answer = sizes_words(answer, sizes).doubles(&cells);
-    let popped = document::pop(&mut record, sizes, &mut cells);
-    record_words(popped_words(answer, popped), &record).elements(&cells).write(out);
+    Record { contig: 1, contig_len: 100, distance: 1, threshold: 0.05, filter: 0, start: 1, last: n, count: n }
+}
+
+/// A pop of it with max 4.
+fn example_pop(cells: &[f64], min: u32, forced: bool, out: &mut impl Write) {
+    pop_answer(example(cells), Sizes { extension: 0, min, max: 4, forced }, cells.to_vec(), out);
 }
 
 /// P1 to P6; a tie of three; and cells that no add leaves, where document 01 decides and not the Rust's start from f64::MAX.
@@ -314,11 +319,96 @@ fn examples(out: &mut impl Write) {
     example_pop(&[0.9, 0.2, 0.5, 0.2, 0.5, 0.2, 0.9], 1, false, out);
 }
 
+// ---- pops for the peak (document 02, U2)
+
+/// A forced pop of all these cells, where they are on one side and none is cut at.
+fn whole_pop(cells: &[f64], out: &mut impl Write) {
+    let n = cells.len() as u32;
+    pop_answer(example(cells), Sizes { extension: 0, min: n, max: n + 1, forced: true }, cells.to_vec(), out);
+}
+
+/// The rule's corners: NaN first and later, zeros of both signs, ties, one cell, infinities; a region cut short before a higher cell, one that ends at the other side
+/// before one, and a forced pop that trims one; and the highest cell at each place of one to nine, alone and with an equal one behind it.
+fn peak_examples(out: &mut impl Write) {
+    let nan = f64::NAN;
+    let inf = f64::INFINITY;
+    for cells in [
+        &[nan, 0.01, 0.04][..],
+        &[nan, nan, nan],
+        &[0.01, nan, 0.04, nan, 0.03],
+        &[0.3, 0.7, 0.5, 0.7, 0.6],
+        &[-0.0, 0.0, -0.0],
+        &[0.0, -0.0, 0.0],
+        &[-0.0, -1.0, 0.0, 0.04],
+        &[0.6],
+        &[0.01],
+        &[nan],
+        &[inf, inf, 0.5],
+        &[0.5, inf, f64::MAX, inf],
+        &[-inf, -inf, f64::MIN],
+        &[-inf, nan, -inf, 0.01],
+        &[0.5, f64::MIN_POSITIVE, 0.5],
+        &[5e-324, 1e-323, 5e-324, 0.0],
+    ] {
+        whole_pop(cells, out);
+    }
+    example_pop(&[0.5, 0.3, 0.2, 0.9, 0.9], 2, false, out);
+    example_pop(&[0.5, 0.6, 0.7, 0.8, 0.9], 2, false, out);
+    example_pop(&[0.5, 0.6, 0.01, 0.8, 0.9], 2, false, out);
+    example_pop(&[0.01, 0.02, 0.8, 0.9, 0.9], 2, false, out);
+    let trimmed = [0.2, 0.4, 0.3, 0.8, 0.9];
+    let record = Record { start: 10, last: 12, filter: 2, ..example(&trimmed) };
+    pop_answer(record, Sizes { extension: 1, min: 1, max: 9, forced: true }, trimmed.to_vec(), out);
+    let past = [0.2, 0.4];
+    let record = Record { start: 13, last: 12, filter: 2, distance: 0, ..example(&past) };
+    pop_answer(record, Sizes { extension: 1, min: 1, max: 9, forced: true }, past.to_vec(), out);
+    let far = [0.4, 0.4, 0.5];
+    let record = Record { contig_len: 1_073_741_823, start: 1_073_741_821, last: 1_073_741_823, ..example(&far) };
+    pop_answer(record, Sizes { extension: u32::MAX, min: 1, max: u32::MAX, forced: true }, far.to_vec(), out);
+    for n in 1..=9 {
+        for at in 0..n {
+            let mut cells = vec![0.25; n];
+            cells[at] = 0.75;
+            whole_pop(&cells, out);
+            if at + 1 < n {
+                cells[at + 1] = 0.75;
+                whole_pop(&cells, out);
+                cells[at + 1] = nan;
+                whole_pop(&cells, out);
+            }
+        }
+    }
+}
+
+/// A pop of up to 40 cells, of few values or of any, rising or not, with max up to all of them.
+fn peak_pop(r: &mut Random, out: &mut impl Write) {
+    let n = 1 + r.below(40) as usize;
+    let kind = r.below(4);
+    let cells: Vec<f64> = (0..n)
+        .map(|i| match kind {
+            0 => r.pick(&[0.2, 0.4, 0.6]),
+            1 => (i as f64 + r.below(3) as f64) / 64.0,
+            2 if r.chance(3) => any_cell(r),
+            2 => 0.5,
+            _ => r.unit(),
+        })
+        .collect();
+    let threshold = r.pick(&[0.0, 0.01, 0.05, 1.0]);
+    let start = 1 + r.below(60) as u32;
+    let record = Record { start, last: start + n as u32 - 1, threshold, ..example(&cells) };
+    let sizes = Sizes { extension: r.pick(&[0, 7]), min: 1 + r.below(8) as u32, max: 1 + r.below(n as u64 + 1) as u32, forced: r.chance(2) };
+    pop_answer(record, sizes, cells, out);
+}
+
 pub fn call_list(seed: u64, count: u64, out: &mut impl Write) {
     let mut r = Random::from_seed(seed);
     examples(out);
     for _ in 0..count {
         single_add(&mut r, out);
         single_pop(&mut r, out);
+    }
+    peak_examples(out);
+    for _ in 0..count / 3 {
+        peak_pop(&mut r, out);
     }
 }

@@ -374,8 +374,9 @@ fn list(first: Vec<Stream>, function: Function, seed: u64, count: u64, out: &mut
 }
 
 /// What a program prints for an input.
-fn output_of(program: &str, input: Vec<u8>) -> String {
-    let mut child = Command::new(program).stdin(Stdio::piped()).stdout(Stdio::piped()).spawn().expect("the program starts");
+fn output_of(program: &str, argument: Option<&str>, input: Vec<u8>) -> String {
+    let mut child =
+        Command::new(program).args(argument).stdin(Stdio::piped()).stdout(Stdio::piped()).spawn().expect("the program starts");
     let mut stdin = child.stdin.take().expect("its input is a pipe");
     // a program that refuses may leave before it has read all
     let writer = std::thread::spawn(move || drop(stdin.write_all(&input)));
@@ -384,8 +385,16 @@ fn output_of(program: &str, input: Vec<u8>) -> String {
     String::from_utf8_lossy(&output.stdout).into_owned()
 }
 
-/// Compares what a program prints as a listing, and another as a sheet, with the oracle, on the edges and on `count` streams; whether all are the same.
-pub fn compare(listing: &str, sheet: Option<&str>, seed: u64, count: u64) -> bool {
+/// How a program prints the regions: a line each, a sheet, or, asked for `peaks`, a line each with the peak behind it.
+#[derive(Clone, Copy, PartialEq)]
+pub enum Form {
+    Listing,
+    Sheet,
+    Peaks,
+}
+
+/// Compares what programs print with the oracle, on the edges and on `count` streams; whether all are the same.
+pub fn compare(programs: &[(&str, Form)], seed: u64, count: u64) -> bool {
     let r = &mut Random::from_seed(seed);
     let fresh = (0..count).map(|_| stream(r));
     let (mut same, mut asked, mut regions, mut pages) = (0u64, 0u64, 0usize, 0usize);
@@ -399,20 +408,28 @@ pub fn compare(listing: &str, sheet: Option<&str>, seed: u64, count: u64) -> boo
         if let Some(number) = run.refusal() {
             refused[number] += 1;
         }
-        let as_listing = is_printed(listing, &s, &run.listing());
-        let as_sheet = sheet.map_or(true, |program| is_printed(program, &s, &run.sheet()));
-        same += u64::from(as_listing && as_sheet);
+        same += u64::from(programs.iter().all(|&(program, form)| is_printed(program, form, &s, &run)));
     }
-    let forms = if sheet.is_some() { "as listings and as sheets" } else { "as listings" };
+    let names = programs.iter().map(|p| match p.1 {
+        Form::Listing => "as listings",
+        Form::Sheet => "as sheets",
+        Form::Peaks => "with peaks",
+    });
+    let forms = names.collect::<Vec<_>>().join(" and ");
     println!("{same} of {asked} streams are the same, {forms}: {regions} regions, {pages} pages; {} streams are refused", refused.iter().sum::<u64>());
     let by_number: Vec<String> = (1..12).filter(|&n| refused[n] > 0).map(|n| format!("{n}: {}", refused[n])).collect();
     println!("refusals by number: {}", by_number.join(", "));
     same == asked
 }
 
-/// Whether a program prints this for a stream; where it does not, both are shown.
-fn is_printed(program: &str, s: &Stream, expected: &str) -> bool {
-    let printed = output_of(program, s.bytes());
+/// Whether a program prints a run in this form; where it does not, both are shown.
+fn is_printed(program: &str, form: Form, s: &Stream, run: &region::Printed) -> bool {
+    let expected = match form {
+        Form::Listing => run.listing(),
+        Form::Sheet => run.sheet(),
+        Form::Peaks => run.peaks(),
+    };
+    let printed = output_of(program, (form == Form::Peaks).then_some("peaks"), s.bytes());
     if printed == expected {
         return true;
     }

@@ -18,7 +18,7 @@ use Rattle.activity_profile.specs.Loci.{cell}
 use Rattle.activity_profile.specs.Verdict.{Verdict, refusal, granted}
 use Rattle.activity_profile.specs.Profile.{waiting}
 use Rattle.activity_profile.specs.Add.{addVerdict, addedProfile, addAnswerBy, addAnswer}
-use Rattle.activity_profile.specs.Pop.{Turn, empty, held, ready, popVerdict, turn, kept, above, popSize, regionOf, heldPop, regionPop, popAnswerBy, popAnswer}
+use Rattle.activity_profile.specs.Pop.{Turn, empty, held, ready, popVerdict, turn, kept, above, popSize, regionWith, regionOf, heldPop, regionPop, popAnswerBy, popAnswer}
 use Rattle.activity_profile.specs.Run.{Call, Add, Pop, lastOf, Lent, afterAdd, afterPop, step, locusOf, lociOf, acceptedBy, poppedBy, after, acceptedIn, poppedIn, Sound, Faithful}
 use Rattle.activity_profile.proofs.Loci.{length-loci, lastOf-loci}
 use Rattle.activity_profile.proofs.Fresh.{fresh-is}
@@ -61,7 +61,7 @@ add-keeps made p cells k s accepted gone v = go (addVerdict p (length cells) (le
 pop-keeps : (made p : BandPassActivityProfile) (cells : List Float) (x least most : ℕ) (forced : Bool) (accepted gone : List ℕ) → 1 ≤ made .«max_prob_propagation_distance»
     → Inv made p accepted gone
     → Inv made (afterPop (popAnswer p cells x least most forced)) (accepted ++ []) (gone ++ lociOf (popAnswer p cells x least most forced))
-unfolding popAnswer popAnswerBy regionOf
+unfolding popAnswer popAnswerBy regionOf regionWith
 pop-keeps made p cells x least most forced accepted gone d v = go (popVerdict p (length cells) least most) (turn p most forced) refl refl
   where
     go : (a : Verdict) (t : Turn) → popVerdict p (length cells) least most ≡ a → turn p most forced ≡ t
@@ -114,8 +114,8 @@ accepted-last made p accepted gone v h k = rw (← (v .whole), waiting-some p h)
 
 region-sound : (made : BandPassActivityProfile) (l : Lent) (x least most : ℕ) (forced : Bool) (accepted gone : List ℕ) → 1 ≤ made .«max_prob_propagation_distance»
     → Inv made (l .profile) accepted gone → popVerdict (l .profile) (length (l .cells)) least most ≡ granted → turn (l .profile) most forced ≡ ready
-    → Sound (made .«active_prob_threshold») l accepted most (regionOf (l .profile) (above (l .profile .«active_prob_threshold») (cell (l .cells) 0)) (popSize (l .profile) (l .cells) least most forced) x)
-unfolding regionOf
+    → Sound (made .«active_prob_threshold») l accepted most (regionOf (l .profile) (l .cells) (popSize (l .profile) (l .cells) least most forced) x)
+unfolding regionOf regionWith
 region-sound made l x least most forced accepted gone d v e t =
     let p = l .profile in
     let cells = l .cells in
@@ -150,7 +150,7 @@ region-is made l x least most forced accepted gone d v r q = go (popVerdict (l .
     go granted empty e f g = absurd (let z : _≡_ {A = ℕ} 0 1 = cc in omega arith)
     go granted held e f g = absurd (let z : _≡_ {A = ℕ} 0 1 = cc in omega arith)
     go granted ready e f g =
-        let h : regionOf (l .profile) (above (l .profile .«active_prob_threshold») (cell (l .cells) 0)) (popSize (l .profile) (l .cells) least most forced) x ≡ r = cc in
+        let h : regionOf (l .profile) (l .cells) (popSize (l .profile) (l .cells) least most forced) x ≡ r = cc in
         rw h at (region-sound made l x least most forced accepted gone d v e f)
 
 held-bound : (made : BandPassActivityProfile) (l : Lent) (x least most : ℕ) (forced : Bool) (accepted gone : List ℕ)

@@ -14,10 +14,9 @@ use Rattle.band_pass_kernel.specs.declared.BandPassActivityProfileParams.{BandP
 use Rattle.activity_profile.specs.declared.BandPassActivityProfile.{BandPassActivityProfile}
 use Rattle.activity_profile.specs.declared.ActivityProfileRegion.{ActivityProfileRegion}
 use Rattle.activity_profile.specs.Making.{making}
-use Rattle.activity_profile.specs.Loci.{cell}
 use Rattle.activity_profile.specs.Verdict.{Verdict, refusal, granted}
 use Rattle.activity_profile.specs.Profile.{waiting}
-use Rattle.activity_profile.specs.Pop.{Turn, empty, held, ready, popVerdict, tooFew, turn, kept, above, popSize, regionOf, rest, emptyPop, regionPop, popAnswerBy, popAnswer}
+use Rattle.activity_profile.specs.Pop.{Turn, empty, held, ready, popVerdict, tooFew, turn, kept, popSize, regionOf, rest, emptyPop, regionPop, popAnswerBy, popAnswer}
 use Rattle.activity_profile.specs.Run.{Call, Pop, Lent, step, acceptedBy, poppedBy, after, acceptedIn, poppedIn}
 use Rattle.activity_profile.proofs.Fresh.{fresh-is}
 use Rattle.activity_profile.proofs.Verdicts.{empty-none}
@@ -40,7 +39,7 @@ module _ (extension least most : ℕ) (h : 1 ≤ least) (k : 1 ≤ most) where
 
   region-forced : (p : BandPassActivityProfile) (cells : List Float) → Whole p (length cells) → 0 < p .count
       → let size = popSize p cells least most true in
-      popAnswer p cells extension least most true ≡ regionPop (regionOf p (above (p .«active_prob_threshold») (cell cells 0)) size extension) (rest p size (kept p true - size))
+      popAnswer p cells extension least most true ≡ regionPop (regionOf p cells size extension) (rest p size (kept p true - size))
   unfolding popAnswer popAnswerBy
   region-forced p cells w c = rw (granted-is p (length cells) w, ready-forced p c)
 

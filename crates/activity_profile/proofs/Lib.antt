@@ -13,3 +13,4 @@ pub mod Cases
 pub mod Adds
 pub mod Windows
 pub mod OnContig
+pub mod Peak

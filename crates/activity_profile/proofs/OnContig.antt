@@ -14,7 +14,7 @@ use Rattle.activity_profile.specs.declared.BandPassActivityProfile.{Band
 use Rattle.activity_profile.specs.declared.ActivityProfileRegion.{ActivityProfileRegion}
 use Rattle.activity_profile.specs.Verdict.{Verdict, refusal, granted}
 use Rattle.activity_profile.specs.Profile.{settingsInRange}
-use Rattle.activity_profile.specs.Pop.{PopAnswer, refusedPop, emptyPop, heldPop, regionPop, Turn, empty, held, ready, popVerdict, turn, kept, popSize, regionOf, popAnswerBy, popAnswer}
+use Rattle.activity_profile.specs.Pop.{PopAnswer, refusedPop, emptyPop, heldPop, regionPop, Turn, empty, held, ready, popVerdict, turn, kept, popSize, regionWith, regionOf, popAnswerBy, popAnswer}
 use Rattle.activity_profile.proofs.Cuts.{Cut, cut-is}
 
 -- on a contig of this length
@@ -33,10 +33,10 @@ Hands len (emptyPop q) = Unit {0}
 Hands len (heldPop q) = Unit {0}
 Hands len (regionPop r q) = OnContig len r
 
-region-of : (p : BandPassActivityProfile) (cells : List Float) (active : Bool) (least most extension : ℕ) (forced : Bool) → Cut p cells least most forced
-    → OnContig (p .«contig_len») (regionOf p active (popSize p cells least most forced) extension)
-unfolding regionOf settingsInRange
-region-of p cells active least most extension forced c =
+region-of : (p : BandPassActivityProfile) (cells : List Float) (least most extension : ℕ) (forced : Bool) → Cut p cells least most forced
+    → OnContig (p .«contig_len») (regionOf p cells (popSize p cells least most forced) extension)
+unfolding regionOf regionWith settingsInRange
+region-of p cells least most extension forced c =
     let size = popSize p cells least most forced in
     let end : p .«region_start» + size - 1 ≤ p .«contig_len» = omega (arith, c .within, c .kept-high, c .asked .placed .end-on) in
     let short : leb (p .«contig_len») maxPosition ≡ true = search (and-left, and-right, c .asked .whole .settings) in
@@ -57,7 +57,7 @@ hands p cells extension least most forced = go (popVerdict p (length cells) leas
     go (refusal n) t e f = tt
     go granted empty e f = tt
     go granted held e f = tt
-    go granted ready e f = region-of p cells _ least most extension forced (cut-is p cells least most forced e f)
+    go granted ready e f = region-of p cells least most extension forced (cut-is p cells least most forced e f)
 
 -- Whatever the record, the cells and the sizes are: a region that a pop answers lies on the record's contig, and its loci within its padding.
 pub region-on-contig : (p : BandPassActivityProfile) (cells : List Float) (extension least most : ℕ) (forced : Bool) (r : ActivityProfileRegion) (q : BandPassActivityProfile)

@@ -3,6 +3,7 @@ pub mod Loci
 pub mod Verdict
 pub mod Profile
 pub mod Add
+pub mod Peak
 pub mod Pop
 pub mod Run
 pub mod Window

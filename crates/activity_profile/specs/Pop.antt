@@ -16,6 +16,7 @@ use Rattle.activity_profile.specs.declared.Popped.the-variants.{Ready, H
 use Rattle.activity_profile.specs.Loci.{cell}
 use Rattle.activity_profile.specs.Verdict.{Verdict, refusal, granted}
 use Rattle.activity_profile.specs.Profile.{D, holding, broken}
+use Rattle.activity_profile.specs.Peak.{peakIndex, peakOf}
 
 -- ---- which answer
 
@@ -86,9 +87,9 @@ sizeOf t xs least most =
 unfoldable pub popSize : BandPassActivityProfile → List Float → ℕ → ℕ → Bool → ℕ
 popSize p cells least most forced = sizeOf (p .«active_prob_threshold») (take (kept p forced) cells) least most
 
--- "Padding subtracts and adds the extension, clamped to 1 and L"
-unfoldable pub regionOf : BandPassActivityProfile → Bool → ℕ → ℕ → ActivityProfileRegion
-regionOf p active size extension = record {
+-- a region from region start on, with its peak x at index `peak` of its cells. "Padding subtracts and adds the extension, clamped to 1 and L"
+unfoldable pub regionWith : BandPassActivityProfile → Bool → ℕ → ℕ → ℕ → Float → ActivityProfileRegion
+regionWith p active size extension peak x = record {
   contig = p .contig;
   start = p .«region_start»;
   end = p .«region_start» + size - 1;
@@ -96,7 +97,16 @@ regionOf p active size extension = record {
   «padded_start» = max 1 (p .«region_start» - extension);
   «padded_end» = min (p .«contig_len») (p .«region_start» + size - 1 + extension);
   extension = extension;
+  peak = x;
+  «peak_pos» = p .«region_start» + peak;
 }
+
+-- the region of the first `size` of the cells lent. "The region is active if cell 0 is strictly above the threshold"; 02, U2: "the largest cell
+-- among its loci and that cell's position"
+unfoldable pub regionOf : BandPassActivityProfile → List Float → ℕ → ℕ → ActivityProfileRegion
+regionOf p cells size extension =
+    let popped = take size cells in
+    regionWith p (above (p .«active_prob_threshold») (cell cells 0)) size extension (peakIndex popped) (peakOf popped)
 
 -- ---- what is left
 
@@ -133,7 +143,7 @@ popAnswerBy granted empty p cells extension least most forced = emptyPop p
 popAnswerBy granted held p cells extension least most forced = heldPop p
 popAnswerBy granted ready p cells extension least most forced =
     let size = popSize p cells least most forced in
-    regionPop (regionOf p (above (p .«active_prob_threshold») (cell cells 0)) size extension) (rest p size (kept p forced - size))
+    regionPop (regionOf p cells size extension) (rest p size (kept p forced - size))
 
 unfoldable pub popCellsBy : Verdict → Turn → BandPassActivityProfile → List Float → ℕ → ℕ → Bool → List Float
 popCellsBy (refusal n) t p cells least most forced = cells

@@ -1,4 +1,4 @@
-// Document 01, 'Popping'. No public function has a `requires`.
+// Document 01, 'Popping', and the peak of document 02, U2. No public function has a `requires`.
 use activity_profile::ActivityProfileRegion;
 use activity_profile::BandPassActivityProfile;
 use activity_profile::Popped;
@@ -7,15 +7,17 @@ use numbers::greater;
 use numbers::lesser;
 use numbers::monus;
 use profile_record::is_broken;
+use region_cells::find_first_activity_boundary;
+use region_cells::peak_index;
 ghost use mathlib.Core.Path.{_≡_};
 ghost use Prim.Native.Nat.{_+_, _-_, _≤_, _<_};
-ghost use lib.ListN.{length, take};
+ghost use lib.ListN.{length};
 ghost use Rattle.lists.specs.Each.{each};
-ghost use Rattle.lists.specs.Loops.{firstAt};
 ghost use Rattle.activity_profile.specs.Verdict.{granted};
-ghost use Rattle.activity_profile.specs.Pop.{kept, regionOf, rest, popVerdict, turn, ready, tooFew};
+ghost use Rattle.activity_profile.specs.Pop.{kept, regionWith, rest, popVerdict, turn, ready, tooFew};
 ghost use Rattle.activity_profile.specs.Pop.{popAnswerOf, popAnswerBy, popCellsBy, popAnswer, popCells};
-ghost use Rattle.activity_profile.specs.Pop.{otherSide, qualifies, beats, bestCutSite, orMost, sizeOf, movedCell};
+ghost use Rattle.activity_profile.specs.Pop.{qualifies, beats, bestCutSite, orMost, sizeOf, movedCell};
+ghost use Rattle.profile_pop.specs.Moving.{shiftedCell, clearedCell};
 
 // Pops the next region that is ready, from the cells that are lent with the record. Refuses a broken record, then a region size of 0.
 pub fn try_pop_next_ready_region(
@@ -85,7 +87,8 @@ fn pop_ready(
         most as usize,
     );
     let left = keep - size;
-    let region = region_of(p, active, size, extension);
+    let peak = peak_index(&cells[..size]);
+    let region = region_with(p, active, size, extension, peak, cells[peak]);
     let next = rest_of(p, size, left);
     move_to_front(cells, size, left, p.count as usize);
     Popped::Ready(region, next)
@@ -102,15 +105,20 @@ fn kept_cells(p: BandPassActivityProfile, forced: bool) -> usize
     p.count as usize
 }
 
-// The region, its padding clamped to 1 and the contig length.
-fn region_of(
+// The region of `size` loci, its padding clamped to 1 and the contig length, with its peak, the cell at index `peak`.
+fn region_with(
     p: BandPassActivityProfile,
     active: bool,
     size: usize,
     extension: u32,
+    peak: usize,
+    x: f64,
 ) -> ActivityProfileRegion
-    requires { ⌜ (1 ≤ p .«region_start») × (1 ≤ size) × (p .«region_start» + size - 1 ≤ p .«contig_len») ⌝ }
-    ensures { λ r. ⌜ r ≡ regionOf p active size extension ⌝ }
+    requires { ⌜ (1 ≤ p .«region_start»)
+        × (1 ≤ size)
+        × (peak < size)
+        × (p .«region_start» + size - 1 ≤ p .«contig_len») ⌝ }
+    ensures { λ r. ⌜ r ≡ regionWith p active size extension peak x ⌝ }
 {
     let end = p.region_start as u64 + size as u64 - 1;
     let low = greater(1, monus(p.region_start as u64, extension as u64));
@@ -123,7 +131,17 @@ fn region_of(
         padded_start: low as u32,
         padded_end: high as u32,
         extension,
+        peak: x,
+        peak_pos: position_at(p.region_start, peak),
     }
+}
+
+// The position of a cell: "cell i is the activity at region start + i".
+fn position_at(region_start: u32, i: usize) -> u32
+    requires { ⌜ «region_start» + i < 4294967296 ⌝ }
+    ensures { λ r. ⌜ r ≡ «region_start» + i ⌝ }
+{
+    (region_start as u64 + i as u64) as u32
 }
 
 // The record once the region is gone and `left` cells are left.
@@ -156,25 +174,6 @@ fn region_size(states: &[f64], threshold: f64, least: usize, most: usize) -> usi
     let end = find_first_activity_boundary(states, threshold, active, most);
     if active & (end == most) {
         return find_best_cut_site(states, least, most);
-    }
-    end
-}
-
-// The first cell on the other side, or max, or the count.
-fn find_first_activity_boundary(states: &[f64], threshold: f64, active: bool, most: usize) -> usize
-    ensures { λ r. ⌜ (r ≡ firstAt (otherSide threshold active) (take most (now (states .entry))))
-        × (r ≤ length (now (states .entry))) ⌝ }
-{
-    let mut end = 0;
-    while end < states.len() {
-        if end == most {
-            return end;
-        }
-        let above = states[end] > threshold;
-        if above != active {
-            return end;
-        }
-        end += 1;
     }
     end
 }
@@ -231,13 +230,30 @@ fn move_to_front(cells: &mut [f64], size: usize, left: usize, count: usize)
     requires { ⌜ (size + left ≤ count) × (count ≤ length (now cells)) ⌝ }
     ensures { λ _. ⌜ now (cells .exit) ≡ each (movedCell (now (cells .entry)) size left count) (now (cells .entry)) ⌝ }
 {
+    shift(cells, size, left);
+    clear(cells, left, count);
+}
+
+// The cells that are left move to the front.
+fn shift(cells: &mut [f64], size: usize, left: usize)
+    requires { ⌜ size + left ≤ length (now cells) ⌝ }
+    ensures { λ _. ⌜ now (cells .exit) ≡ each (shiftedCell (now (cells .entry)) size left) (now (cells .entry)) ⌝ }
+{
     let mut i = 0;
+    while i < left {
+        cells[i] = cells[size + i];
+        i += 1;
+    }
+}
+
+// The cells behind them become 0.0, up to the count.
+fn clear(cells: &mut [f64], left: usize, count: usize)
+    requires { ⌜ (left ≤ count) × (count ≤ length (now cells)) ⌝ }
+    ensures { λ _. ⌜ now (cells .exit) ≡ each (clearedCell left count) (now (cells .entry)) ⌝ }
+{
+    let mut i = left;
     while i < count {
-        if i < left {
-            cells[i] = cells[size + i];
-        } else {
-            cells[i] = 0.0;
-        }
+        cells[i] = 0.0;
         i += 1;
     }
 }

@@ -44,7 +44,7 @@ record-read p = refl
 -- ---- a region, a state, and settings
 
 abbrev pub regionFields : ActivityProfileRegion → List ℕ
-regionFields r = r .contig ∷ r .start ∷ r .end ∷ cond (r .«is_active») 1 0 ∷ r .«padded_start» ∷ r .«padded_end» ∷ r .extension ∷ []
+regionFields r = r .contig ∷ r .start ∷ r .end ∷ cond (r .«is_active») 1 0 ∷ r .«padded_start» ∷ r .«padded_end» ∷ r .extension ∷ r .«peak_pos» ∷ []
 
 -- clip evidence or none
 abbrev pub evidenceFrom : Bool → ℕ → ActivityEvidence
@@ -127,6 +127,12 @@ popRegion (emptyPop p) old = old
 popRegion (heldPop p) old = old
 popRegion (regionPop r p) old = regionFields r
 
+abbrev pub popPeak : PopAnswer → Float → Float
+popPeak (refusedPop n p) old = old
+popPeak (emptyPop p) old = old
+popPeak (heldPop p) old = old
+popPeak (regionPop r p) old = r .peak
+
 -- the kernel that a making left, at the front of whichever buffer holds it
 abbrev pub kernelOf : ℕ → ℕ → List Float → List Float → List Float
 kernelOf f widest full narrow = take (band f) (cond (eqb f widest) full narrow)
@@ -155,10 +161,11 @@ pub record Adds (answer : AddAnswer) (old new : List ℕ) (r : ℕ) : Type 0 whe
   pub number : r ≡ addNumber answer
   pub written : new ≡ addRecord answer old
 
-pub record Pops (answer : PopAnswer) (old new region region′ : List ℕ) (r : ℕ) : Type 0 where
+pub record Pops (answer : PopAnswer) (old new region region′ : List ℕ) (peak peak′ : Float) (r : ℕ) : Type 0 where
   pub number : r ≡ popNumber answer
   pub written : new ≡ popRecord answer old
   pub handed-out : region′ ≡ popRegion answer region
+  pub peak-written : peak′ ≡ popPeak answer peak
 
 pub record Scores (outcome : Outcome ActivityProfileState) (activity activity′ : List Float) (evidence evidence′ : List ℕ) (r : ℕ) : Type 0 where
   pub number : r ≡ outcomeNumber outcome

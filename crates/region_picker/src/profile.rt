@@ -136,8 +136,8 @@ pub extern "C" fn region_picker_add(
     }
 }
 
-// Pops the next region that is ready. Answers 0 with the region written; `HELD` or `EMPTY`; or the number of a refusal,
-// which writes nothing.
+// Pops the next region that is ready. Answers 0 with the region and its peak written; `HELD` or `EMPTY`; or the number of
+// a refusal, which writes nothing.
 #[no_mangle]
 pub extern "C" fn region_picker_pop(
     profile: &mut [u32; RECORD],
@@ -148,11 +148,13 @@ pub extern "C" fn region_picker_pop(
     forced: bool,
     cells: &mut [f64],
     region: &mut [u32; REGION],
+    peak: &mut f64,
 ) -> u32
     ensures { λ r. ⌜ Pops
         (popAnswer (profileOf (now (profile .entry)) «active_prob_threshold») (now (cells .entry))
         «assembly_region_extension» «min_region_size» «max_region_size» forced)
-        (now (profile .entry)) (now (profile .exit)) (now (region .entry)) (now (region .exit)) r ⌝ }
+        (now (profile .entry)) (now (profile .exit)) (now (region .entry)) (now (region .exit))
+        (now (peak .entry)) (now (peak .exit)) r ⌝ }
     ensures { λ _. ⌜ now (cells .exit)
         ≡ popCells (profileOf (now (profile .entry)) «active_prob_threshold») (now (cells .entry))
         «min_region_size» «max_region_size» forced ⌝ }
@@ -169,6 +171,7 @@ pub extern "C" fn region_picker_pop(
     match popped {
         Popped::Ready(r, next) => {
             *region = region_fields(r);
+            *peak = r.peak;
             *profile = record_of(next);
             0
         }
@@ -224,6 +227,7 @@ fn region_fields(r: ActivityProfileRegion) -> [u32; REGION]
         r.padded_start,
         r.padded_end,
         r.extension,
+        r.peak_pos,
     ]
 }
 

@@ -78,10 +78,10 @@ pub(crate) fn pop_at(
     )
 }
 
-// The answer: 0 and the region; 1, held; 2, empty; 3 and the refusal's number.
+// The answer: 0, the region and its peak; 1, held; 2, empty; 3 and the refusal's number.
 pub(crate) fn answer(words: &[u64], c: Compared, popped: Popped) -> Compared {
     match popped {
-        Popped::Ready(r, _) => region(words, c.word(words, 0), r),
+        Popped::Ready(r, _) => peak(words, region(words, c.word(words, 0), r), r),
         Popped::Held(_) => c.word(words, 1),
         Popped::Empty(_) => c.word(words, 2),
         Popped::Refused(why, _) => c.word(words, 3).word(words, why.number() as u64),
@@ -96,6 +96,11 @@ fn region(words: &[u64], c: Compared, r: ActivityProfileRegion) -> Compared {
         .word(words, r.padded_start as u64)
         .word(words, r.padded_end as u64)
         .word(words, r.extension as u64)
+}
+
+// The peak and its position.
+fn peak(words: &[u64], c: Compared, r: ActivityProfileRegion) -> Compared {
+    c.double(words, r.peak).word(words, r.peak_pos as u64)
 }
 
 fn flag(b: bool) -> u64 {

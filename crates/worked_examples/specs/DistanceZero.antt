@@ -15,7 +15,7 @@ use Rattle.activity_profile.specs.declared.ActivityEvidence.the-variants.{Plain
 use Rattle.activity_profile.specs.Making.{making, freshProfile}
 use Rattle.activity_profile.specs.Profile.{settingsInRange, placed, broken}
 use Rattle.activity_profile.specs.Add.{superStates, times, weight, received, firstLocus, lowest, highest, needed, addVerdict, addedProfile, addedCell, addAnswerBy, addCellsBy, addAnswer, addCells}
-use Rattle.activity_profile.specs.Pop.{popVerdict, turn, kept, qualifies, beats, replaces, better, bestCutSite, orMost, sizeOf, popSize, regionOf, rest, movedCell, popAnswerBy, popCellsBy, popAnswer, popCells}
+use Rattle.activity_profile.specs.Pop.{popVerdict, turn, kept, qualifies, beats, replaces, better, bestCutSite, orMost, sizeOf, popSize, regionWith, regionOf, rest, movedCell, popAnswerBy, popCellsBy, popAnswer, popCells}
 use Rattle.activity_profile.specs.Run.{Call, Add, Pop, Lent, step, acceptedBy, poppedBy, acceptedIn, poppedIn}
 
 pub settings : BandPassActivityProfileParams
@@ -47,9 +47,9 @@ calls =
     ∷ []
 
 pub accepted-1 : acceptedIn lent calls ≡ 1 ∷ []
-unfolding acceptedIn lent calls fresh settings step acceptedBy addAnswer addCells popAnswer popCells addAnswerBy addCellsBy addVerdict addedProfile addedCell received times weight superStates firstLocus lowest highest needed broken settingsInRange placed popAnswerBy popCellsBy popVerdict turn kept qualifies beats replaces better bestCutSite down firstAt orMost sizeOf popSize regionOf rest movedCell each upTo lt le ofBits add mul
+unfolding acceptedIn lent calls fresh settings step acceptedBy addAnswer addCells popAnswer popCells addAnswerBy addCellsBy addVerdict addedProfile addedCell received times weight superStates firstLocus lowest highest needed broken settingsInRange placed popAnswerBy popCellsBy popVerdict turn kept qualifies beats replaces better bestCutSite down firstAt orMost sizeOf popSize regionWith regionOf rest movedCell each upTo lt le ofBits add mul
 accepted-1 = refl
 
 pub popped-1-and-2 : poppedIn lent calls ≡ 1 ∷ 2 ∷ []
-unfolding poppedIn lent calls fresh settings step poppedBy addAnswer addCells popAnswer popCells addAnswerBy addCellsBy addVerdict addedProfile addedCell received times weight superStates firstLocus lowest highest needed broken settingsInRange placed popAnswerBy popCellsBy popVerdict turn kept qualifies beats replaces better bestCutSite down firstAt orMost sizeOf popSize regionOf rest movedCell each upTo lt le ofBits add mul
+unfolding poppedIn lent calls fresh settings step poppedBy addAnswer addCells popAnswer popCells addAnswerBy addCellsBy addVerdict addedProfile addedCell received times weight superStates firstLocus lowest highest needed broken settingsInRange placed popAnswerBy popCellsBy popVerdict turn kept qualifies beats replaces better bestCutSite down firstAt orMost sizeOf popSize regionWith regionOf rest movedCell each upTo lt le ofBits add mul
 popped-1-and-2 = refl

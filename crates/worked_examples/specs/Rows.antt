@@ -1,4 +1,4 @@
--- A table of worked examples: what a definition gives, and what document 01 says. One test over the whole table gives every row.
+-- A table of worked examples: what a definition gives, and what documents 01 and 02 say. One test over the whole table gives every row.
 -- Assumes nothing.
 use mathlib.Core.Path.{_≡_, refl}
 use mathlib.Core.Bool.{Bool, true, false, _&&_}
@@ -11,7 +11,7 @@ use lib.ListN.{length}
 use Rattle.lists.specs.Tests.{and-left, and-right}
 
 pub record Row : Type 0 where
-  -- the number of the example: 1 of P1
+  -- the number of the example: 1 of P1, 200 + n of document 02's Un
   pub number : ℕ
   pub given : List ℕ
   pub wanted : List ℕ

@@ -1,18 +1,19 @@
--- P1 to P15 of document 01, against the definitions. Assumes nothing.
+-- P1 to P15 of document 01, and examples of document 02, against the definitions. Assumes nothing.
 use mathlib.Core.Path.{_≡_, refl}
 use mathlib.Core.Bool.{Bool, true, false, cond}
 use mathlib.Core.List.{List, [], _∷_, map}
 use Prim.Native.Nat.{ℕ, _+_, _*_, _<_}
 use lib.ListN.{length}
-use lib.Ieee.{Float, binary64, round, ofBits, ofInt, toUnsigned, add, sub, div, lt, le, ne}
+use lib.Ieee.{Float, binary64, nan, neg, round, ofBits, toBits, ofInt, toUnsigned, add, sub, div, lt, le, ne}
 use Rattle.lists.specs.Each.{each, upTo}
-use Rattle.lists.specs.Loops.{down, firstAt, foldl}
+use Rattle.lists.specs.Loops.{along, down, firstAt, foldl}
 use Rattle.activity_profile.specs.declared.BandPassActivityProfile.{BandPassActivityProfile}
 use Rattle.activity_profile.specs.declared.ActivityEvidence.{ActivityEvidence}
 use Rattle.activity_profile.specs.declared.ActivityEvidence.the-variants.{Plain, HighQualitySoftClips}
 use Rattle.activity_profile.specs.Profile.{settingsInRange, placed, broken}
 use Rattle.activity_profile.specs.Add.{superStates}
-use Rattle.activity_profile.specs.Pop.{PopAnswer, refusedPop, emptyPop, heldPop, regionPop, popAnswer, popAnswerBy, popVerdict, turn, kept, qualifies, beats, replaces, better, bestCutSite, orMost, sizeOf, popSize, regionOf, rest}
+use Rattle.activity_profile.specs.Pop.{PopAnswer, refusedPop, emptyPop, heldPop, regionPop, popAnswer, popAnswerBy, popVerdict, turn, kept, qualifies, beats, replaces, better, bestCutSite, orMost, sizeOf, popSize, regionWith, regionOf, rest}
+use Rattle.activity_profile.specs.Peak.{leads, peakIndex}
 use Rattle.genome.specs.Refusals.{Outcome, refused, answered}
 use Rattle.genotype_likelihoods.specs.declared.HaplotypeCallerActivityScoringParams.{HaplotypeCallerActivityScoringParams}
 use Rattle.genotype_likelihoods.specs.Settings.{defaults}
@@ -59,6 +60,23 @@ popOf : List ℕ → ℕ → Bool → List ℕ
 unfolding told popAnswer tenths profile
 popOf cells least forced = told (popAnswer (profile 1 0 1 (length cells) (length cells)) (map tenths cells) 0 least 4 forced)
 
+-- 02, U2, of a region that was popped: its end, the position of its peak and the bits of the peak; of another answer nothing
+peakTold : PopAnswer → List ℕ
+peakTold (refusedPop n p) = []
+peakTold (emptyPop p) = []
+peakTold (heldPop p) = []
+peakTold (regionPop r p) = r .end ∷ r .«peak_pos» ∷ toBits binary64 (r .peak) ∷ []
+
+-- the peak of these cells, popped forced by a record as above
+peakOf : List Float → List ℕ
+unfolding peakTold popAnswer profile
+peakOf cells = peakTold (popAnswer (profile 1 0 1 (length cells) (length cells)) cells 0 2 4 true)
+
+-- n hundredths, on the side that is not active up to 5
+hundredths : ℕ → Float
+unfolding round
+hundredths n = round binary64 false n 100
+
 -- an observation word: quality, deletion, alt, next to soft clip, clip count
 word : ℕ → ℕ → ℕ → ℕ → ℕ → ℕ
 word qual deletion alt near clips = 0x4000_0000 + qual * 0x40_0000 + deletion * 0x20_0000 + alt * 0x10_0000 + near * 0x8_0000 + clips
@@ -90,7 +108,7 @@ unfolding evidenceTold evidenceOf meanOf word
 clipsOf counts = evidenceTold (evidenceOf (meanOf defaults (map (word 30 0 1 1) counts)))
 
 pub table : List Row
-unfolding popOf told popAnswer tenths profile superStates kept numbered clipCount word minimum skippedOf clipsOf plOf
+unfolding popOf told peakTold peakOf popAnswer tenths hundredths profile superStates kept numbered clipCount word minimum skippedOf clipsOf plOf
 table =
     record { number = 1; given = popOf (9 ∷ 5 ∷ 2 ∷ 5 ∷ 9 ∷ []) 2 false; wanted = 3 ∷ 1 ∷ 3 ∷ [] }
     ∷ record { number = 2; given = popOf (9 ∷ 2 ∷ 5 ∷ 2 ∷ 9 ∷ []) 2 false; wanted = 3 ∷ 1 ∷ 4 ∷ [] }
@@ -127,11 +145,24 @@ table =
     ∷ record { number = 13; given = clipsOf (6 ∷ []); wanted = 0 ∷ [] }
     ∷ record { number = 14; given = plOf (tenths 25) ∷ []; wanted = 3 ∷ [] }
     ∷ record { number = 15; given = numbered (clipCount ((3 * 16 + 4) ∷ (2 * 16 + 0) ∷ []) (28 ∷ 29 ∷ 30 ∷ 40 ∷ 40 ∷ [])); wanted = 1 ∷ 2 ∷ [] }
+    -- 200 + n is an example of document 02's Un. U2: of equals the first; a NaN in front leads, and one further on does not; 0.0 does not overtake -0.0; the cut and the
+    -- trim leave out what is higher
+    ∷ record { number = 202; given = peakOf (map tenths (5 ∷ 9 ∷ 9 ∷ 7 ∷ [])); wanted = 4 ∷ 2 ∷ toBits binary64 (tenths 9) ∷ [] }
+    ∷ record { number = 202; given = peakOf (nan ∷ map hundredths (1 ∷ 4 ∷ [])); wanted = 3 ∷ 1 ∷ toBits binary64 nan ∷ [] }
+    ∷ record { number = 202; given = peakOf (hundredths 1 ∷ nan ∷ hundredths 4 ∷ []); wanted = 3 ∷ 3 ∷ toBits binary64 (hundredths 4) ∷ [] }
+    ∷ record { number = 202; given = peakOf (neg (tenths 0) ∷ tenths 0 ∷ []); wanted = 2 ∷ 1 ∷ 0x8000_0000_0000_0000 ∷ [] }
+    ∷ record { number = 202; given = peakOf (tenths 6 ∷ []); wanted = 1 ∷ 1 ∷ toBits binary64 (tenths 6) ∷ [] }
+    ∷ record { number = 202; given = peakOf (map tenths (5 ∷ 3 ∷ 2 ∷ 9 ∷ 9 ∷ [])); wanted = 3 ∷ 1 ∷ toBits binary64 (tenths 5) ∷ [] }
+    ∷ record {
+      number = 202;
+      given = peakTold (popAnswer (profile 1 2 10 12 5) (map tenths (2 ∷ 4 ∷ 3 ∷ 8 ∷ 9 ∷ [])) 0 2 4 true);
+      wanted = 12 ∷ 11 ∷ toBits binary64 (tenths 4) ∷ [];
+    }
     ∷ []
 
 -- the one proof
 pub table-right : allRight table ≡ true
-unfolding table allRight same popOf told tenths profile popAnswer popAnswerBy popVerdict turn kept broken settingsInRange placed qualifies beats replaces better bestCutSite orMost sizeOf popSize regionOf rest superStates numbered clipCount countHigh walked word minimum skippedOf clipsOf evidenceTold effectiveQual skips evidenceOf meanOf withWord plOf minF toUnsigned ofInt add sub div ne foldl down firstAt each upTo lt le ofBits round
+unfolding table allRight same popOf told peakTold peakOf tenths hundredths profile popAnswer popAnswerBy popVerdict turn kept broken settingsInRange placed qualifies beats replaces better bestCutSite orMost sizeOf popSize regionWith regionOf leads peakIndex along rest superStates numbered clipCount countHigh walked word minimum skippedOf clipsOf evidenceTold effectiveQual skips evidenceOf meanOf withWord plOf minF toUnsigned ofInt add sub div ne foldl down firstAt each upTo lt le neg ofBits toBits round
 table-right = refl
 
 -- every row

@@ -1,9 +1,11 @@
 /* Reads the words of a small stream from standard input and prints its regions, by the part alone: what the region program prints for them.
- * Words are as README.md has them; sigma 17, threshold 0.002, scoring's usual settings, 4,096 cells. */
+ * Words are as README.md has them; sigma 17, threshold 0.002, scoring's usual settings, 4,096 cells. With the argument `peaks`, each line goes on with the position of
+ * the region's peak and the peak, to six decimals. */
 #include "../../region_picker.h"
 #include <inttypes.h>
 #include <stdio.h>
 #include <stdlib.h>
+#include <string.h>
 
 #define CELLS 4096
 #define KERNEL 1001
@@ -22,7 +24,7 @@ static size_t depth;
 
 /* kind 3 words set these: max, min, extension, distance, max filter, contig length */
 static uint32_t settings[7] = {0, 300, 50, 100, 50, 50, 1073741823};
-static bool is_made, is_open;
+static bool is_made, is_open, with_peaks;
 static uint32_t position;
 static uint64_t locus_index;
 
@@ -72,6 +74,7 @@ static void observation(uint32_t word, uint64_t index) {
 /* Pops until held or empty. */
 static void pops(uint32_t value, uint64_t index) {
     uint32_t region[REGION_PICKER_REGION], answer;
+    double peak;
     end_pile();
     if (value > 1)
         refuse(3, index);
@@ -80,9 +83,13 @@ static void pops(uint32_t value, uint64_t index) {
             refuse(11, index);
         return;
     }
-    while ((answer = region_picker_pop(profile, threshold, settings[3], settings[2], settings[1], value == 1, cells, CELLS, region)) == 0)
-        printf("%" PRIu32 " %" PRIu32 " %" PRIu32 " %" PRIu32 " %" PRIu32 "\n", region[REGION_PICKER_START], region[REGION_PICKER_END],
+    while ((answer = region_picker_pop(profile, threshold, settings[3], settings[2], settings[1], value == 1, cells, CELLS, region, &peak)) == 0) {
+        printf("%" PRIu32 " %" PRIu32 " %" PRIu32 " %" PRIu32 " %" PRIu32, region[REGION_PICKER_START], region[REGION_PICKER_END],
                region[REGION_PICKER_IS_ACTIVE], region[REGION_PICKER_PADDED_START], region[REGION_PICKER_PADDED_END]);
+        if (with_peaks)
+            printf(" %" PRIu32 " %.6f", region[REGION_PICKER_PEAK_POSITION], peak);
+        putchar('\n');
+    }
     if (answer != REGION_PICKER_HELD && answer != REGION_PICKER_EMPTY)
         refuse(answer, index);
 }
@@ -97,10 +104,15 @@ static void set(uint32_t word, uint64_t index) {
     settings[field] = value;
 }
 
-int main(void) {
+int main(int count, char **arguments) {
     unsigned char bytes[4];
     size_t got;
     uint64_t index = 0;
+    with_peaks = count == 2 && strcmp(arguments[1], "peaks") == 0;
+    if (count > 1 && !with_peaks) {
+        fputs("usage: regions [peaks] < WORDS\n", stderr);
+        return 2;
+    }
     if (region_picker_fill_tables(table, TABLE, priors, PRIORS, SCORING) != 0)
         return 1;
     for (; (got = fread(bytes, 1, 4, stdin)) == 4; index++) {

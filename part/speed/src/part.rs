@@ -98,9 +98,11 @@ impl Profile {
 
     /// Start, end and whether it is active, of a region that is ready.
     pub fn pop(&mut self, forced: bool) -> Option<(u32, u32, bool)> {
-        let mut region = [0; 7];
+        let mut region = [0; 8];
+        let mut peak = 0.0;
         let cells = self.cells.as_mut_ptr();
-        let answer = unsafe { region_picker_pop(self.numbers.as_mut_ptr(), THRESHOLD, 100, 50, 300, forced, cells, self.cells.len(), region.as_mut_ptr()) };
+        #[rustfmt::skip]
+        let answer = unsafe { region_picker_pop(self.numbers.as_mut_ptr(), THRESHOLD, 100, 50, 300, forced, cells, self.cells.len(), region.as_mut_ptr(), &mut peak) };
         (answer == 0).then_some((region[1], region[2], region[3] == 1))
     }
 }

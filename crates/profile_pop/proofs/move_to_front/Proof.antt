@@ -1,104 +1,43 @@
--- `move_to_front` meets its contract: the cells before i are as the rule says, the others as they were.
-use Prim.Native.Nat.{_+_, _-_, _≤_}
-use mathlib.Core.Logic.{⊎-elim}
-use mathlib.Core.Path.{_∙_, _≡_, ap, refl, sym}
-use native.Mathlib.Omega.{arith}
-use lib.Ieee.{nan}
-use lib.ListN.{getD, length, length-set}
+-- `move_to_front` meets its contract: clearing behind the cells that were moved is document 01's move.
+use Prim.Native.Nat.{ℕ}
+use mathlib.Core.Bool.{Bool, cond, false, true}
+use mathlib.Core.List.{List}
+use mathlib.Core.Path.{_∙_, _≡_, refl}
+use lib.Dec.{ltb}
+use lib.Ieee.{Float}
 use borrow.Author.Needs.{needs}
-use borrow.Author.Tests.{le-ltb, lt-ltb}
 use Rattle.activity_profile.specs.Pop.{movedCell}
-use Rattle.lists.specs.Each.{getD-upTo-above, upTo, upTo-put, upTo-rest, upTo-zero}
+use Rattle.lists.specs.Each.{each, each-each, each-same}
+use Rattle.profile_pop.specs.Moving.{clearedCell, shiftedCell}
 use Rattle.profile_pop.proofs.move_to_front.Statement.{statement}
 use Rattle.profile_pop.proofs.move_to_front.Tie as tie
 
-abbrev Inv-loop : tie.InvT-loop
-Inv-loop cells₀ size left count i₀ cells i = (i ≤ count) × (length cells ≡ length cells₀) × (cells ≡ upTo (movedCell cells₀ size left count) i cells₀)
+both-steps : (cells l : List Float) (size left count : ℕ) → each (clearedCell left count) (each (shiftedCell cells size left) l) ≡ each (movedCell cells size left count) l
+unfolding clearedCell shiftedCell movedCell
+both-steps cells l size left count =
+    each-each (shiftedCell cells size left) (clearedCell left count) l
+    ∙ each-same (λ k x. clearedCell left count k (shiftedCell cells size left k x)) (movedCell cells size left count) l (λ k x. go (ltb k left) (ltb k count) _ _ x)
+  where
+    -- y is what is moved there, z what a cleared cell holds, and x what it held
+    go : (b c : Bool) (y z x : Float) → cond b (cond b y x) (cond c z (cond b y x)) ≡ cond b y (cond c z x)
+    go true c y z x = refl
+    go false c y z x = refl
 
-abbrev μ-loop : tie.MeasureT-loop
-μ-loop cells₀ size left count i₀ cells i = count - i
+shift-requires : tie.Need-shift-requires
+shift-requires c κs = search needs
 
-loop-holds : tie.Need-loop-holds Inv-loop μ-loop
-loop-holds c = (omega arith, refl, sym (upTo-zero (movedCell (c .args .cells .now) (c .args .size) (c .args .left) (c .args .count)) _))
+clear-requires : tie.Need-clear-requires
+clear-requires c κs = search needs
 
-add-cells : tie.Need-add-cells Inv-loop μ-loop
-add-cells c = search needs
+same-length : tie.Need-same-length
+same-length c = search needs
 
-mul-cells : tie.Need-mul-cells Inv-loop μ-loop
-mul-cells c = search needs
-
-slice-read-cells : tie.Need-slice-read-cells Inv-loop μ-loop
-slice-read-cells c = search needs
-
-mul-cells-2 : tie.Need-mul-cells-2 Inv-loop μ-loop
-mul-cells-2 c = search needs
-
-slice-write-cells : tie.Need-slice-write-cells Inv-loop μ-loop
-slice-write-cells c = search needs
-
-mul-cells-3 : tie.Need-mul-cells-3 Inv-loop μ-loop
-mul-cells-3 c = search needs
-
-slice-write-cells-2 : tie.Need-slice-write-cells-2 Inv-loop μ-loop
-slice-write-cells-2 c = search needs
-
-add-i : tie.Need-add-i Inv-loop μ-loop
-add-i c = search needs
-
-loop-less : tie.Need-loop-less Inv-loop μ-loop
-loop-less c = search needs
-
-loop-again : tie.Need-loop-again Inv-loop μ-loop
-unfolding movedCell
-loop-again c =
-    let at = c .before .before in
-    let a = at .before .args in
-    let l = a .cells .now in
-    let i = at .loop .i in
-    let f = movedCell l (a .size) (a .left) (a .count) in
-    ⊎-elim
-    (λ w. (
-      omega arith,
-      ap length (w .2) ∙ simp length-set (omega arith),
-      w .2 ∙ upTo-put f i l _ nan _ (at .loop .inv .2) (omega arith)
-          (ap (λ t. getD t (a .size + i) nan) (at .loop .inv .2) ∙ getD-upTo-above f i l (a .size + i) nan (omega arith) ∙ simp (lt-ltb _ _ (w .0 .taken))),
-    ))
-    (λ w. (
-      omega arith,
-      ap length (w .1) ∙ simp length-set (omega arith),
-      w .1 ∙ upTo-put f i l _ nan _ (at .loop .inv .2) (omega arith) (simp (le-ltb _ _ (w .0 .left), lt-ltb i (a .count) (omega arith))),
-    ))
-    (c .if1 .came)
-
-same-length : tie.Need-same-length Inv-loop μ-loop
-same-length c = c .before .loop .inv .1
-
-returns : tie.Need-returns Inv-loop μ-loop
-unfolding movedCell
+returns : tie.Need-returns
 returns c =
-    let at = c .before in
-    let a = at .before .args in
-    let l = a .cells .now in
-    let f = movedCell l (a .size) (a .left) (a .count) in
-    let e : at .loop .i ≡ a .count = omega arith in
-    at .loop .inv .2 ∙ rw e (upTo-rest f (a .count) l (λ k x h. rw (le-ltb k (a .left) (omega arith), le-ltb k (a .count) h)))
+    let cleared = c .before .before in
+    let shifted = cleared .before .before .before .before in
+    let a = shifted .before .before .before .args in
+    simp (cleared .clear .ensures, shifted .shift .ensures) (both-steps (a .cells .now) (a .cells .now) (a .size) (a .left) (a .count))
 
 pub move-to-front-spec : {M : Type 1} → statement M
-move-to-front-spec =
-    tie.close
-    (tie.spec
-    Inv-loop
-    μ-loop
-    loop-holds
-    add-cells
-    mul-cells
-    slice-read-cells
-    mul-cells-2
-    slice-write-cells
-    mul-cells-3
-    slice-write-cells-2
-    add-i
-    loop-less
-    loop-again
-    same-length
-    returns)
+move-to-front-spec = tie.close (tie.spec shift-requires clear-requires same-length returns)

@@ -1,4 +1,5 @@
-//! Reads the words of a small stream from standard input and prints its regions, by the part alone: what the region program prints for them.
+//! Reads the words of a small stream from standard input and prints its regions, by the part alone: what the region program prints for them. With the argument
+//! `peaks`, each line goes on with the position of the region's peak and the peak, to six decimals.
 mod picker;
 #[path = "../../../region_picker.rs"]
 mod region_picker;
@@ -23,14 +24,15 @@ struct Stream {
     /// Made at the first locus word.
     profile: Option<Profile>,
     pile: Option<Pile>,
+    with_peaks: bool,
 }
 
 /// A refusal with the index of the word that it names.
 type Stopped = (Refusal, u64);
 
 impl Stream {
-    fn new() -> Self {
-        Self { scorer: Scorer::new(), settings: [0, 300, 50, 100, 50, 50, 1_073_741_823], profile: None, pile: None }
+    fn new(with_peaks: bool) -> Self {
+        Self { scorer: Scorer::new(), settings: [0, 300, 50, 100, 50, 50, 1_073_741_823], profile: None, pile: None, with_peaks }
     }
 
     fn end_pile(&mut self) -> Result<(), Stopped> {
@@ -68,10 +70,14 @@ impl Stream {
         let Some(profile) = self.profile.as_mut() else {
             return if max == 0 || min == 0 { Err((11, index)) } else { Ok(()) };
         };
-        while let Some([_, start, end, active, padded_start, padded_end, _]) =
+        while let Some(([_, start, end, active, padded_start, padded_end, _, position], peak)) =
             profile.pop(extension, min, max, value == 1).map_err(|n| (n, index))?
         {
-            println!("{start} {end} {active} {padded_start} {padded_end}");
+            print!("{start} {end} {active} {padded_start} {padded_end}");
+            if self.with_peaks {
+                print!(" {position} {peak:.6}");
+            }
+            println!();
         }
         Ok(())
     }
@@ -121,9 +127,15 @@ impl Stream {
 }
 
 fn main() {
+    let arguments: Vec<String> = std::env::args().skip(1).collect();
+    let with_peaks = arguments == ["peaks"];
+    if !arguments.is_empty() && !with_peaks {
+        eprintln!("usage: regions [peaks] < WORDS");
+        std::process::exit(2);
+    }
     let mut input = Vec::new();
     std::io::stdin().read_to_end(&mut input).expect("standard input is read");
-    if let Err((number, index)) = Stream::new().run(&input) {
+    if let Err((number, index)) = Stream::new(with_peaks).run(&input) {
         println!("refused {number} {index}");
     }
 }

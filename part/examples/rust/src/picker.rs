@@ -71,15 +71,16 @@ impl Profile {
         answer(refusal)
     }
 
-    /// A region's contig, start, end, 1 where it is active, padded start, padded end and extension; none where none is ready.
-    pub fn pop(&mut self, extension: u32, min: u32, max: u32, forced: bool) -> Result<Option<[u32; 7]>, Refusal> {
-        let mut region = [0; 7];
+    /// A region's contig, start, end, 1 where it is active, padded start, padded end, extension and position of its peak, and the peak; none where none is ready.
+    pub fn pop(&mut self, extension: u32, min: u32, max: u32, forced: bool) -> Result<Option<([u32; 8], f64)>, Refusal> {
+        let mut region = [0; 8];
+        let mut peak = 0.0;
         let cells = &mut self.cells;
         #[rustfmt::skip]
-        let popped = unsafe { region_picker_pop(self.numbers.as_mut_ptr(), THRESHOLD, extension, min, max, forced, cells.as_mut_ptr(), cells.len(), region.as_mut_ptr()) };
+        let popped = unsafe { region_picker_pop(self.numbers.as_mut_ptr(), THRESHOLD, extension, min, max, forced, cells.as_mut_ptr(), cells.len(), region.as_mut_ptr(), &mut peak) };
         match popped {
             HELD | EMPTY => Ok(None),
-            n => answer(n).map(|()| Some(region)),
+            n => answer(n).map(|()| Some((region, peak))),
         }
     }
 }

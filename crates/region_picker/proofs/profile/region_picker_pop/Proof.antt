@@ -44,7 +44,7 @@ returns : tie.Need-returns
 returns c =
     let call = c .before .before .before .before .before .before .before in
     let told = c .before .before .before .popped .given .1 in
-    simp (← call .before .before .profile-of .ensures, ← call .try-pop-next-ready-region .ensures .0, told, c .record-of .ensures, c .before .region-fields .ensures) (record { number = refl; written = refl; handed-out = refl }, call .try-pop-next-ready-region .ensures .1)
+    simp (← call .before .before .profile-of .ensures, ← call .try-pop-next-ready-region .ensures .0, told, c .record-of .ensures, c .before .region-fields .ensures) (record { number = refl; written = refl; handed-out = refl; peak-written = refl }, call .try-pop-next-ready-region .ensures .1)
 
 same-length-2 : tie.Need-same-length-2
 same-length-2 c = search needs
@@ -53,7 +53,7 @@ returns-2 : tie.Need-returns-2
 returns-2 c =
     let call = c .before .before .before .before .before .before in
     let told = c .before .before .popped2 .given .1 in
-    simp (← call .before .before .profile-of .ensures, ← call .try-pop-next-ready-region .ensures .0, told, c .record-of2 .ensures) (record { number = refl; written = refl; handed-out = refl }, call .try-pop-next-ready-region .ensures .1)
+    simp (← call .before .before .profile-of .ensures, ← call .try-pop-next-ready-region .ensures .0, told, c .record-of2 .ensures) (record { number = refl; written = refl; handed-out = refl; peak-written = refl }, call .try-pop-next-ready-region .ensures .1)
 
 same-length-3 : tie.Need-same-length-3
 same-length-3 c = search needs
@@ -62,7 +62,7 @@ returns-3 : tie.Need-returns-3
 returns-3 c =
     let call = c .before .before .before .before .before .before in
     let told = c .before .before .popped3 .given .1 in
-    simp (← call .before .before .profile-of .ensures, ← call .try-pop-next-ready-region .ensures .0, told, c .record-of3 .ensures) (record { number = refl; written = refl; handed-out = refl }, call .try-pop-next-ready-region .ensures .1)
+    simp (← call .before .before .profile-of .ensures, ← call .try-pop-next-ready-region .ensures .0, told, c .record-of3 .ensures) (record { number = refl; written = refl; handed-out = refl; peak-written = refl }, call .try-pop-next-ready-region .ensures .1)
 
 same-length-4 : tie.Need-same-length-4
 same-length-4 c = search needs
@@ -71,7 +71,7 @@ returns-4 : tie.Need-returns-4
 returns-4 c =
     let call = c .before .before .before .before .before .before in
     let told = c .before .before .popped4 .given .1 in
-    simp (← call .before .before .profile-of .ensures, ← call .try-pop-next-ready-region .ensures .0, told, c .number .ensures) (record { number = refl; written = refl; handed-out = refl }, call .try-pop-next-ready-region .ensures .1)
+    simp (← call .before .before .profile-of .ensures, ← call .try-pop-next-ready-region .ensures .0, told, c .number .ensures) (record { number = refl; written = refl; handed-out = refl; peak-written = refl }, call .try-pop-next-ready-region .ensures .1)
 
 pub region-picker-pop-spec : {M : Type 1} → statement M
 region-picker-pop-spec =

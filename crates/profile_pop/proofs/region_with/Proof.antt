@@ -1,8 +1,8 @@
--- `region_of` meets its contract: the padding is clamped as in the definition, and every number fits 32 bits.
+-- `region_with` meets its contract: the padding is clamped as in the definition, and every number fits 32 bits.
 use borrow.Author.Needs.{needs}
-use Rattle.activity_profile.specs.Pop.{regionOf}
-use Rattle.profile_pop.proofs.region_of.Statement.{statement}
-use Rattle.profile_pop.proofs.region_of.Tie as tie
+use Rattle.activity_profile.specs.Pop.{regionWith}
+use Rattle.profile_pop.proofs.region_with.Statement.{statement}
+use Rattle.profile_pop.proofs.region_with.Tie as tie
 
 cast-end : tie.Need-cast-end
 cast-end c = search needs
@@ -31,21 +31,27 @@ add-lesser c = search needs
 lesser-requires : tie.Need-lesser-requires
 lesser-requires c κs = search needs
 
-cast-t11 : tie.Need-cast-t11
-cast-t11 c = search needs
-
-cast-t12 : tie.Need-cast-t12
-cast-t12 c = search needs
-
 cast-t13 : tie.Need-cast-t13
 cast-t13 c = search needs
 
-returns : tie.Need-returns
-unfolding regionOf
-returns c = simp (c .lesser .ensures, c .before .before .greater .ensures, c .before .before .before .monus .ensures)
+cast-t14 : tie.Need-cast-t14
+cast-t14 c = search needs
 
-pub region-of-spec : {M : Type 1} → statement M
-region-of-spec =
+cast-t15 : tie.Need-cast-t15
+cast-t15 c = search needs
+
+position-at-requires : tie.Need-position-at-requires
+position-at-requires c κs = search needs
+
+returns : tie.Need-returns
+unfolding regionWith
+returns c =
+    let lesser = c .before in
+    let greater = lesser .before .before in
+    simp (c .position-at .ensures, lesser .lesser .ensures, greater .greater .ensures, greater .before .monus .ensures)
+
+pub region-with-spec : {M : Type 1} → statement M
+region-with-spec =
     tie.close
     (tie.spec
     cast-end
@@ -57,7 +63,8 @@ region-of-spec =
     cast-lesser
     add-lesser
     lesser-requires
-    cast-t11
-    cast-t12
     cast-t13
+    cast-t14
+    cast-t15
+    position-at-requires
     returns)
