@@ -87,9 +87,9 @@ sizeOf t xs least most =
 unfoldable pub popSize : BandPassActivityProfile → List Float → ℕ → ℕ → Bool → ℕ
 popSize p cells least most forced = sizeOf (p .«active_prob_threshold») (take (kept p forced) cells) least most
 
--- a region from region start on, with its peak x at index `peak` of its cells. "Padding subtracts and adds the extension, clamped to 1 and L"
+-- a region of `size` loci from region start on, whose peak is the cell at this index. "Padding subtracts and adds the extension, clamped to 1 and L"
 unfoldable pub regionWith : BandPassActivityProfile → Bool → ℕ → ℕ → ℕ → Float → ActivityProfileRegion
-regionWith p active size extension peak x = record {
+regionWith p active size extension index peak = record {
   contig = p .contig;
   start = p .«region_start»;
   end = p .«region_start» + size - 1;
@@ -97,8 +97,8 @@ regionWith p active size extension peak x = record {
   «padded_start» = max 1 (p .«region_start» - extension);
   «padded_end» = min (p .«contig_len») (p .«region_start» + size - 1 + extension);
   extension = extension;
-  peak = x;
-  «peak_pos» = p .«region_start» + peak;
+  peak = peak;
+  «peak_pos» = p .«region_start» + index;
 }
 
 -- the region of the first `size` of the cells lent. "The region is active if cell 0 is strictly above the threshold"; 02, U2: "the largest cell

@@ -33,8 +33,8 @@ pub struct BandPassActivityProfile {
     pub count: u32,
 }
 
-// A region handed out: its loci run from start to end, both included, and the padded bounds stay on the contig. Its peak is the largest of its
-// cells, as the pop found them, the first of equals, and stands at peak_pos; a first cell that is NaN is the peak (document 02, U2).
+// A region handed out: its loci run from start to end, both included, and the padded bounds stay on the contig. Its peak is the largest of
+// its cells, as the pop found them, the first of equals, and stands at peak_pos; a first cell that is NaN is the peak (document 02, U2).
 pub struct ActivityProfileRegion {
     pub contig: u32,
     pub start: u32,

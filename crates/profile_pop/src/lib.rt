@@ -87,8 +87,8 @@ fn pop_ready(
         most as usize,
     );
     let left = keep - size;
-    let peak = peak_index(&cells[..size]);
-    let region = region_with(p, active, size, extension, peak, cells[peak]);
+    let index = peak_index(&cells[..size]);
+    let region = region_with(p, active, size, extension, index, cells[index]);
     let next = rest_of(p, size, left);
     move_to_front(cells, size, left, p.count as usize);
     Popped::Ready(region, next)
@@ -105,20 +105,20 @@ fn kept_cells(p: BandPassActivityProfile, forced: bool) -> usize
     p.count as usize
 }
 
-// The region of `size` loci, its padding clamped to 1 and the contig length, with its peak, the cell at index `peak`.
+// The region of `size` loci, its padding clamped to 1 and the contig length, with its peak, the cell at this index.
 fn region_with(
     p: BandPassActivityProfile,
     active: bool,
     size: usize,
     extension: u32,
-    peak: usize,
-    x: f64,
+    index: usize,
+    peak: f64,
 ) -> ActivityProfileRegion
     requires { ⌜ (1 ≤ p .«region_start»)
         × (1 ≤ size)
-        × (peak < size)
+        × (index < size)
         × (p .«region_start» + size - 1 ≤ p .«contig_len») ⌝ }
-    ensures { λ r. ⌜ r ≡ regionWith p active size extension peak x ⌝ }
+    ensures { λ r. ⌜ r ≡ regionWith p active size extension index peak ⌝ }
 {
     let end = p.region_start as u64 + size as u64 - 1;
     let low = greater(1, monus(p.region_start as u64, extension as u64));
@@ -131,8 +131,8 @@ fn region_with(
         padded_start: low as u32,
         padded_end: high as u32,
         extension,
-        peak: x,
-        peak_pos: position_at(p.region_start, peak),
+        peak,
+        peak_pos: position_at(p.region_start, index),
     }
 }
 

@@ -1,12 +1,11 @@
 // Document 01, 'Popping': the end of a region.
 use numbers::lesser;
 ghost use mathlib.Core.Path.{_≡_};
-ghost use mathlib.Core.Bool.{_||_};
 ghost use Prim.Native.Nat.{_+_, _≤_};
 ghost use lib.ListN.{length, take, drop};
 ghost use Rattle.lists.specs.Loops.{firstAt};
-ghost use Rattle.activity_profile.specs.Loci.{cell};
 ghost use Rattle.activity_profile.specs.Pop.{otherSide};
+ghost use Rattle.region_cells.specs.Fours.{oneOfFour, otherAt};
 
 // The first cell on the other side, or max, or the count.
 pub fn find_first_activity_boundary(
@@ -53,10 +52,7 @@ fn fours_on_one_side(states: &[f64], threshold: f64, active: bool, most: usize) 
 // Whether one of four cells is on the other side.
 fn differs_in_four(states: &[f64], threshold: f64, active: bool, i: usize) -> bool
     requires { ⌜ i + 4 ≤ length (now states) ⌝ }
-    ensures { λ r. ⌜ r ≡ (((otherSide threshold active (cell (now (states .entry)) i)
-        || otherSide threshold active (cell (now (states .entry)) (i + 1)))
-        || otherSide threshold active (cell (now (states .entry)) (i + 2)))
-        || otherSide threshold active (cell (now (states .entry)) (i + 3))) ⌝ }
+    ensures { λ r. ⌜ r ≡ oneOfFour (otherAt threshold active (now (states .entry))) i ⌝ }
 {
     ((states[i] > threshold) != active)
         | ((states[i + 1] > threshold) != active)

@@ -1,5 +1,5 @@
-// Walks over the cells of a region: where it ends, and its peak. Each looks at four cells at a time where one test tells that nothing changes among them. No public
-// function has a `requires`.
+// Walks over the cells of a region: where it ends, and its peak. Each looks at four cells at a time, where one test tells that nothing
+// changes among them. No public function has a `requires`.
 mod boundary;
 mod peak;
 

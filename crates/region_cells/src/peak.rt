@@ -5,8 +5,8 @@ ghost use lib.ListN.{length};
 ghost use Rattle.lists.specs.Loops.{along};
 ghost use Rattle.activity_profile.specs.Peak.{leads, peakIndex};
 
-// The index of the peak of a region's cells: the first cell leads, even a NaN, and a later one only if strictly above the leader. Four cells have
-// their turns at once, since most of them are not above the leader and one test tells.
+// The index of the peak of a region's cells: the first cell leads, even a NaN, and a later one only if strictly above the leader. Four
+// cells have their turns at once: mostly none of them is above the leader, and one test tells.
 pub fn peak_index(cells: &[f64]) -> usize
     ensures { λ r. ⌜ r ≡ peakIndex (now (cells .entry)) ⌝ }
 {
@@ -44,7 +44,7 @@ fn each_of_four(cells: &[f64], i: usize, leader: usize) -> usize
     after_turn(cells, i + 3, third)
 }
 
-// The leader once all the cells from i on had their turns.
+// The leader once all the cells from `from` on had their turns, `first` being the leader before them.
 fn after_the_rest(cells: &[f64], from: usize, first: usize) -> usize
     requires { ⌜ first < from ⌝ }
     ensures { λ r. ⌜ r ≡ along (leads (now (cells .entry))) from (length (now (cells .entry)) - from) first ⌝ }

@@ -10,8 +10,8 @@ mod scoring;
 // The numbers of a record.
 pub const RECORD: usize = 7;
 
-// The numbers of a region: contig, start, end, 1 where it is active, padded start, padded end, extension, and the position of the peak. The peak
-// itself is a double, and is lent a place of its own.
+// The numbers of a region: contig, start, end, 1 where it is active, padded start, padded end, extension, and the position of the peak. The
+// peak itself is a double, and is lent a place of its own.
 pub const REGION: usize = 8;
 
 // A pop that hands out no region answers one of these, where it is not refused.

@@ -1,16 +1,16 @@
 -- `fours_on_one_side` meets its contract: what is left of the cells, searched from here, comes to the first of all.
 use Prim.Native.Nat.{_+_, _-_, _≤_}
-use mathlib.Core.Bool.{false, _||_}
+use mathlib.Core.Bool.{false}
 use mathlib.Core.Path.{_∙_, _≡_, sym}
 use native.Mathlib.Omega.{arith}
 use lib.Ieee.{nan}
 use lib.ListN.{drop, length, length-take, take}
 use lib.Seq.{getD-take}
 use borrow.Author.Needs.{needs}
-use Rattle.activity_profile.specs.Loci.{cell}
 use Rattle.activity_profile.specs.Pop.{otherSide}
 use Rattle.lists.specs.Loops.{firstAt}
-use Rattle.region_cells.proofs.Sides.{firstAt-four}
+use Rattle.region_cells.specs.Fours.{oneOfFour, otherAt}
+use Rattle.region_cells.proofs.Fours.{firstAt-four}
 use Rattle.region_cells.proofs.boundary.fours_on_one_side.Statement.{statement}
 use Rattle.region_cells.proofs.boundary.fours_on_one_side.Tie as tie
 
@@ -53,7 +53,7 @@ loop-again c =
     let l = a .states .now in
     let i = at .loop .end in
     let short : i + 4 ≤ a .most = omega arith in
-    let none : (((side (cell l i) || side (cell l (i + 1))) || side (cell l (i + 2))) || side (cell l (i + 3))) ≡ false = sym (c .before .differs-in-four .ensures) ∙ c .if1 .left in (
+    let none : oneOfFour (otherAt (a .threshold) (a .active) l) i ≡ false = sym (c .before .differs-in-four .ensures) ∙ c .if1 .left in (
       omega arith,
       at .loop .inv .1,
       at .loop .inv .2,

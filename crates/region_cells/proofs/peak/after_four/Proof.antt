@@ -2,7 +2,7 @@
 use mathlib.Core.Path.{sym}
 use native.Mathlib.Omega.{arith}
 use borrow.Author.Needs.{needs}
-use Rattle.region_cells.proofs.Turns.{none-leads}
+use Rattle.region_cells.proofs.Fours.{none-leads}
 use Rattle.region_cells.proofs.peak.after_four.Statement.{statement}
 use Rattle.region_cells.proofs.peak.after_four.Tie as tie
 

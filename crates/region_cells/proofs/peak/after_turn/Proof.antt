@@ -2,7 +2,7 @@
 use mathlib.Core.Path.{sym}
 use native.Mathlib.Omega.{arith}
 use borrow.Author.Needs.{needs}
-use Rattle.region_cells.proofs.Turns.{leaves-lead, takes-lead}
+use Rattle.region_cells.proofs.Fours.{leaves-lead, takes-lead}
 use Rattle.region_cells.proofs.peak.after_turn.Statement.{statement}
 use Rattle.region_cells.proofs.peak.after_turn.Tie as tie
 

@@ -1,7 +1,7 @@
 -- `each_of_four` meets its contract: four turns, in their order.
 use native.Mathlib.Omega.{arith}
 use borrow.Author.Needs.{needs}
-use Rattle.region_cells.proofs.Turns.{four-turns}
+use Rattle.region_cells.proofs.Fours.{four-turns}
 use Rattle.region_cells.proofs.peak.each_of_four.Statement.{statement}
 use Rattle.region_cells.proofs.peak.each_of_four.Tie as tie
 
