@@ -12,7 +12,7 @@ use Rattle.activity_profile.specs.Loci.{cell}
 use Rattle.activity_profile.specs.Peak.{leads}
 use Rattle.region_cells.specs.Fours.{oneOfFour, aboveAt}
 
--- where the test passes at none of four, it passes at none of them
+-- what a test of four that fails says of each of them
 none : (a b c d : Bool) → (((a || b) || c) || d) ≡ false → (a ≡ false) × (b ≡ false) × (c ≡ false) × (d ≡ false)
 none a b c d e =
     let three = or-left ((a || b) || c) d e in
