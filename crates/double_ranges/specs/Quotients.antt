@@ -132,6 +132,23 @@ sub-self a (fin false m e) p =
     let same : n - n ≡ 0 = omega arith in
     rw (le-ltb n n (le-refl n), same) (round-none false (down e * down e) (mul-pos (down-pos e) (down-pos e)))
 
+-- nothing times what is finite, of either sign
+none-times : (t : Bool) (n : ℕ) (d : ℤ) → mul binary64 zeroF (fin t n d) ≡ fin t 0 (pos 0)
+unfolding mul ofBits
+none-times true n d = rw (zero-mul (n * up d)) (round-none true (down (pos 0) * down d) (mul-pos (down-pos (pos 0)) (down-pos d)))
+none-times false n d = rw (zero-mul (n * up d)) (round-none false (down (pos 0) * down d) (mul-pos (down-pos (pos 0)) (down-pos d)))
+
+none-less : (t : Bool) → sub binary64 zeroF (fin t 0 (pos 0)) ≡ zeroF
+unfolding sub add neg sum ofBits round
+none-less true = refl
+none-less false = refl
+
+-- .. taken off nothing
+pub none-less-none : (a : ℕ) (x : Float) → Size a x → sub binary64 zeroF (mul binary64 zeroF x) ≡ zeroF
+none-less-none a nan p = absurd p
+none-less-none a (inf s) p = absurd p
+none-less-none a (fin t n d) p = ap (sub binary64 zeroF) (none-times t n d) ∙ none-less t
+
 -- ---- a sum of what is not negative is no smaller than its second term
 
 pub add-second : (a b : ℕ) (x y : Float) → T (fits binary64 y) → Size a x → Plus x → Size b y → Plus y → AtMost y (add binary64 x y)

@@ -3,3 +3,4 @@ pub mod Posterior
 pub mod PriorRange
 pub mod Probability
 pub mod Priors
+pub mod Alike

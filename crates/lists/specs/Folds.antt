@@ -45,6 +45,12 @@ module _ {A : Type 0} where
   each-replicate f zero a = refl
   each-replicate f (suc n) a = ap (λ (t : List A). f 0 a ∷ t) (each-replicate (λ k. f (suc k)) n a)
 
+  -- a rule that makes b of a wherever it stands
+  pub each-alike : (f : ℕ → A → A) (n : ℕ) (a b : A) → ((k : ℕ) → f k a ≡ b) → each f (replicate n a) ≡ replicate n b
+  unfolding each upTo
+  each-alike f zero a b h = refl
+  each-alike f (suc n) a b h = rw (h 0) (ap (λ (t : List A). b ∷ t) (each-alike (λ k. f (suc k)) n a b (λ k. h (suc k))))
+
   pub each-tabulate : (f : ℕ → A → A) (g : ℕ → A) (n : ℕ) → each f (tabulate g n) ≡ tabulate (λ k. f k (g k)) n
   unfolding each upTo tabulate
   each-tabulate f g zero = refl
