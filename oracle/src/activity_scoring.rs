@@ -406,7 +406,7 @@ fn skip_observation(
 ) -> bool {
     // Java includes bases at exactly minBaseQualityScore (Q10 when threshold is 10).
     let qfilt = qual < params.min_base_quality_score;
-    qfilt && (params.flow_based_reference_model || !obs.is_deletion)
+    !obs.is_deletion && obs.qual == 255 || qfilt && (params.flow_based_reference_model || !obs.is_deletion)
 }
 
 /// Online mean matching GATK `MathUtils.RunningAverage` updates during RCM `calcGenotypeLikelihoodsOfRefVsAny`

@@ -1,4 +1,4 @@
-//! Answers of the soft-clip count: the Rust's, under document 01's refusal of operations that SAM does not have.
+//! Answers of the soft-clip count: the Rust's, with document 02's skip of quality 255 and under document 01's refusal of operations that SAM does not have.
 use crate::hq_soft_clip::count_high_quality_soft_clip_bases_rcm;
 use crate::list::{Answer, Function};
 use crate::random::Random;
@@ -66,5 +66,20 @@ pub fn clip_list(seed: u64, count: u64, out: &mut impl Write) {
             .collect();
         let qual: Vec<u8> = (0..r.below(16)).map(|_| r.pick(&[0, 2, 20, 27, 28, 29, 30, 40, 93, 254, 255])).collect();
         clip_answer(&cigar, &qual, out);
+    }
+    // document 02, U3: quality 255 at each place of a read, alone and among others of it, and 254 there, which counts
+    let cigar: Vec<u32> = [(2, 5), (3, 4), (4, 0), (2, 1), (3, 2), (2, 7), (1, 8), (3, 4), (1, 5)].iter().map(|&(n, op): &(u32, u32)| n << 4 | op).collect();
+    for at in 0..16 {
+        for others in [0, 28, 29, 40, 254, 255] {
+            for q in [254, 255] {
+                let mut qual = vec![others; 15];
+                if at < 15 {
+                    qual[at] = q;
+                }
+                clip_answer(&cigar, &qual, out);
+                clip_answer(&[15 << 4 | 4], &qual, out);
+                clip_answer(&[20 << 4 | 4], &qual[..at.min(15)], out);
+            }
+        }
     }
 }

@@ -1,4 +1,4 @@
-//! Answers of scoring: the Rust's, under document 01's refusals; and of the sums that it is made of.
+//! Answers of scoring: the Rust's, with document 02's skip of quality 255 and under document 01's refusals; and of the sums that it is made of.
 use crate::activity_profile::ActivityEvidence;
 use crate::activity_scoring::{
     approximate_log10_sum_log10_pair, haplotype_caller_activity_profile_state_single_sample, log10_sum_log10,
@@ -163,8 +163,8 @@ fn edge_scores(out: &mut impl Write) {
     }
     // the deepest pile, and one word more; the cap of a PL
     let sharp = word(254, false, true, false, 0);
-    let certain = word(255, false, true, false, 0);
-    for words in [vec![alt, reference], vec![sharp], vec![certain], vec![word(254, false, false, false, 0)], vec![sharp, word(254, false, false, false, 0)]] {
+    let blank = word(255, false, true, false, 0);
+    for words in [vec![alt, reference], vec![sharp], vec![blank], vec![word(254, false, false, false, 0)], vec![sharp, word(254, false, false, false, 0)]] {
         for alt_multiplier in [1.0 / 1024.0, 1.0, 1024.0] {
             score_answer(Scoring { alt_multiplier, ..DEFAULT }, 9, 16_384, &words, out);
         }
@@ -203,6 +203,61 @@ fn some_settings(r: &mut Random) -> Scoring {
     s
 }
 
+/// Piles with words of quality 255 (document 02, U3): alone, among others, deletions, next to clips; with the flow model and without, at the least and
+/// the largest minimum.
+fn blank_scores(out: &mut impl Write) {
+    let blank = |deletion, alt, clips| word(255, deletion, alt, clips > 0, clips);
+    let (alt, reference) = (word(254, false, true, false, 0), word(254, false, false, false, 0));
+    let near = |clips| word(254, false, true, true, clips);
+    let piles = [
+        vec![blank(false, false, 0)],
+        vec![blank(false, true, 0)],
+        vec![blank(false, true, 40)],
+        vec![blank(false, true, 0), blank(false, false, 0), blank(false, true, 7)],
+        vec![word(253, false, true, true, 40)],
+        vec![alt, blank(false, true, 0), reference],
+        vec![blank(false, false, 0), alt, blank(false, false, 40)],
+        vec![reference, blank(false, true, 0)],
+        vec![near(7), blank(false, true, 0x7_ffff)],
+        vec![blank(false, true, 40), near(6), blank(false, true, 1)],
+        vec![near(40), blank(false, true, 1), blank(false, true, 0)],
+        vec![blank(true, true, 0)],
+        vec![blank(true, false, 0), reference],
+        vec![blank(true, true, 40), blank(false, true, 1)],
+        vec![blank(true, true, 7), blank(false, true, 40), near(7)],
+        vec![word(0, true, true, true, 7), blank(false, true, 40), near(7)],
+    ];
+    for (min_qual, flow) in [(1, false), (1, true), (10, false), (10, true), (254, false), (254, true)] {
+        for deletion_qual in [1, 30, 254] {
+            for ploidy in [1, 2, 7] {
+                for words in &piles {
+                    score_answer(Scoring { min_qual, flow, deletion_qual, ploidy, ..DEFAULT }, 9, words.len(), words, out);
+                }
+            }
+        }
+        // depth, kind and position are looked at whatever the quality is
+        for depth in [16_384, 16_385] {
+            score_answer(Scoring { min_qual, flow, ..DEFAULT }, 9, depth, &[blank(false, true, 40)], out);
+        }
+        score_answer(Scoring { min_qual, flow, ..DEFAULT }, 9, 2, &[blank(false, true, 0), blank(false, true, 0) ^ 1 << 31], out);
+        score_answer(Scoring { min_qual, flow, ..DEFAULT }, 0, 1, &[blank(false, true, 0)], out);
+    }
+}
+
+/// Piles in which most words have quality 255, or one next to the minimum.
+fn some_blank_score(r: &mut Random, out: &mut impl Write) {
+    let mut s = some_settings(r);
+    s.min_qual = r.pick(&[1, s.min_qual, 10, 253, 254]);
+    let words: Vec<u32> = (0..1 + r.below(10))
+        .map(|_| {
+            let qual = r.pick(&[255, 255, 255, 255, 254, 253, u64::from(s.min_qual), u64::from(s.min_qual) - 1, 30, 0]);
+            word(qual, r.chance(4), r.chance(2), r.chance(2), r.pick(&[0, 5, 6, 7, 8, 40, 0x7_ffff]))
+        })
+        .collect();
+    let depth = r.below(2 * words.len() as u64) as usize;
+    score_answer(s, 1 + r.below(MAX_POSITION.into()) as u32, depth, &words, out);
+}
+
 pub fn score_list(seed: u64, count: u64, out: &mut impl Write) {
     edge_scores(out);
     let mut r = Random::from_seed(seed);
@@ -218,6 +273,10 @@ pub fn score_list(seed: u64, count: u64, out: &mut impl Write) {
             .collect();
         let depth = if r.chance(50) { r.below(400) } else { r.below(2 * words.len() as u64) } as usize;
         score_answer(s, 1 + r.below(MAX_POSITION.into()) as u32, depth, &words, out);
+    }
+    blank_scores(out);
+    for _ in 0..count / 4 {
+        some_blank_score(&mut r, out);
     }
 }
 

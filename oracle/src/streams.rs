@@ -264,11 +264,56 @@ fn sheets() -> Vec<Stream> {
     all
 }
 
+/// Words of quality 255 (document 02, U3) at one locus of 120: nothing else, among bases that count, deletions, next to clips; and as many as a pile may have,
+/// and one more.
+fn blanks() -> Vec<Stream> {
+    let (alt, near, few) = (observation(36, 2, 0), observation(36, 3, 7), observation(36, 3, 5));
+    let blank = |flags, clips| observation(255, flags, clips);
+    let piles = [
+        vec![alt, alt],
+        vec![blank(2, 0), blank(2, 0)],
+        vec![blank(0, 0), alt, blank(0, 0), alt, blank(0, 0)],
+        vec![blank(2, 0), observation(36, 0, 0), blank(2, 0)],
+        vec![blank(6, 0), blank(6, 0)],
+        vec![blank(3, 40), blank(3, 40)],
+        vec![near, near],
+        vec![near, blank(3, 0), near, blank(3, 0)],
+        vec![few, few, blank(3, 524_287)],
+        vec![blank(7, 40), blank(3, 0), blank(7, 40)],
+    ];
+    let run = |first, times| Item { times, step: 1, words: vec![first] };
+    let mut all = Vec::new();
+    for pile in piles {
+        let mut items = vec![one(setting(6, 120)), run(1, 60)];
+        items.extend(pile.into_iter().map(one));
+        items.extend([run(61, 60), one(pop(1))]);
+        all.push(Stream::of(items));
+    }
+    for depth in [16_384, 16_385] {
+        all.push(Stream::of(vec![one(9), Item { times: depth, step: 0, words: vec![blank(2, 0)] }, one(10), one(pop(1))]));
+    }
+    all
+}
+
+/// A stream with quality 255 in every other observation.
+fn blanked(r: &mut Random) -> Stream {
+    let mut s = small(r);
+    for item in &mut s.items {
+        for w in &mut item.words {
+            if *w >> 30 == 1 && r.chance(2) {
+                *w |= 255 << 22;
+            }
+        }
+    }
+    s
+}
+
 fn stream(r: &mut Random) -> Stream {
     match r.below(40) {
         0 => Stream::of(deep(r)),
         1 | 2 => Stream::of(full(r)),
         3 => regions(r.below(200) as u32, r.chance(2), r.chance(2)),
+        4..=7 => blanked(r),
         _ => small(r),
     }
 }
@@ -350,10 +395,11 @@ fn edges() -> Vec<Stream> {
         all.push(Stream::of(vec![one(setting(1, 5_000)), Item { times, step: 1, words }, one(pop(1))]));
     }
     all.extend(sheets());
+    all.extend(blanks());
     all
 }
 
-/// The answers of the edges and of `count` streams; the edges have the large ones, of which a list needs few.
+/// The answers of the edges, of `count` streams and of a tenth as many with quality 255; the edges have the large ones, of which a list needs few.
 pub fn stream_list(seed: u64, count: u64, out: &mut impl Write) {
     list(edges(), Function::Region, seed, count, out);
 }
@@ -370,6 +416,9 @@ fn list(first: Vec<Stream>, function: Function, seed: u64, count: u64, out: &mut
     let r = &mut Random::from_seed(seed);
     for _ in 0..count {
         small(r).answer(function).write(out);
+    }
+    for _ in 0..count / 10 {
+        blanked(r).answer(function).write(out);
     }
 }
 

@@ -11,7 +11,7 @@ use lib.ListN.{length}
 use Rattle.lists.specs.Tests.{and-left, and-right, not-false}
 use Rattle.doubles.specs.Constants.{zeroF, halfF, oneF}
 use Rattle.genome.specs.declared.GenomePosition.{GenomePosition}
-use Rattle.genome.specs.Refusals.{refused, answered}
+use Rattle.genome.specs.Refusals.{answered}
 use Rattle.genome.specs.Ranges.{isProbability}
 use Rattle.genotype_likelihoods.specs.declared.HaplotypeCallerActivityScoringParams.{HaplotypeCallerActivityScoringParams}
 use Rattle.genotype_likelihoods.specs.Settings.{settingsInRange}
@@ -22,18 +22,11 @@ use Rattle.genotype_posterior.specs.Posterior.{posterior}
 use Rattle.genotype_posterior.specs.PriorRange.{InRange, leastHeterozygosity, leastDeviation}
 use Rattle.genotype_posterior.specs.Probability.{zero-unit, rounded-size, rounded-length, posterior-unit}
 use Rattle.activity_profile.specs.declared.ActivityProfileState.{ActivityProfileState}
-use Rattle.activity_profile.specs.declared.ActivityEvidence.the-variants.{Plain}
 use Rattle.activity_profile.specs.Add.{noActivity}
 use Rattle.activity_scoring.specs.Mean.{meanOf}
-use Rattle.activity_scoring.specs.Score.{inRange, maxDepth, allObservations, evidenceOf, activityOf, state, stateWith, stateOf, scoreWith, scoreOf}
+use Rattle.activity_scoring.specs.Score.{inRange, maxDepth, allObservations, evidenceOf, activityOf, state, emptyPile, stateWith, stateOf, scoreWith, scoreOf}
+use Rattle.activity_scoring.specs.Skipped.{told}
 use Rattle.activity_scoring.proofs.Counts.{ploidy-at-most}
-
--- what an answer tells of the tests before it
-told : {A : Type 0} (a b c : Bool) (x y : A) → cond a (refused 1) (cond b (refused 4) (cond c (refused 3) (answered x))) ≡ answered y → (a ≡ false) × (x ≡ y)
-told true b c x y e = (cc, cc)
-told false true c x y e = (cc, cc)
-told false false true x y e = (cc, cc)
-told false false false x y e = (refl, cc)
 
 het-low : (s : HaplotypeCallerActivityScoringParams) → settingsInRange s ≡ true → le leastHeterozygosity (s .«snp_heterozygosity») ≡ true
 unfolding settingsInRange
@@ -81,7 +74,7 @@ state-unit : (contig : ℕ) (p : GenomePosition) (words : List ℕ) (s : Haploty
 unfolding stateWith
 state-unit contig p words s e = go (eqb (length words) 0)
   where
-    go : (b : Bool) → isProbability (cond b (state contig p (record { probability = zeroF; original = zeroF }) Plain) (state contig p (activityOf words s) (evidenceOf (meanOf s words))) .«active_prob») ≡ true
+    go : (b : Bool) → isProbability (cond b (emptyPile contig p) (state contig p (activityOf words s) (evidenceOf (meanOf s words))) .«active_prob») ≡ true
     go true = true-of (le zeroF zeroF) (le zeroF oneF) (zero-unit .0) (zero-unit .1)
     go false = activity-unit p words s e
 
@@ -90,7 +83,7 @@ pub score-in-unit : (contig : ℕ) (p : GenomePosition) (words : List ℕ) (s : 
 unfolding scoreWith
 score-in-unit contig p words s r e =
     let t = told (not (inRange p s)) (ltb maxDepth (length words)) (not (allObservations words)) (stateOf contig p words s) r e in
-    subst (λ (x : ActivityProfileState). isProbability (x .«active_prob») ≡ true) (t .1) (state-unit contig p words s (not-false (inRange p s) (t .0)))
+    subst (λ (x : ActivityProfileState). isProbability (x .«active_prob») ≡ true) (t .3) (state-unit contig p words s (not-false (inRange p s) (t .0)))
 
 -- so refusal 8 of an add never meets a score
 pub score-never-8 : (contig : ℕ) (p : GenomePosition) (words : List ℕ) (s : HaplotypeCallerActivityScoringParams) (r : ActivityProfileState)

@@ -1,3 +1,4 @@
 pub mod Mean
 pub mod Score
+pub mod Skipped
 pub mod Tables

@@ -72,11 +72,14 @@ state contig p a e = record {
   evidence = e;
 }
 
--- "An empty pile gives probability 0.0, original 0.0, plain"; another has its activity
+-- "An empty pile gives probability 0.0, original 0.0, plain"
+abbrev pub emptyPile : ℕ → GenomePosition → ActivityProfileState
+emptyPile contig p = state contig p (record { probability = zeroF; original = zeroF }) Plain
+
+-- another has its activity
 unfoldable pub stateWith : Activity → ℕ → GenomePosition → List ℕ → HaplotypeCallerActivityScoringParams → ActivityProfileState
 stateWith a contig p words s =
-    cond (eqb (length words) 0) (state contig p (record { probability = zeroF; original = zeroF }) Plain)
-    (state contig p a (evidenceOf (meanOf s words)))
+    cond (eqb (length words) 0) (emptyPile contig p) (state contig p a (evidenceOf (meanOf s words)))
 
 abbrev pub stateOf : ℕ → GenomePosition → List ℕ → HaplotypeCallerActivityScoringParams → ActivityProfileState
 stateOf contig p words s = stateWith (activityOf words s) contig p words s

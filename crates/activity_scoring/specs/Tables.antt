@@ -87,13 +87,6 @@ priorsAfter s table priors = whereGranted (fillVerdict s (length table) (length 
 
 -- ---- by what was filled. Assumes nothing.
 
--- in range, a quality and a ploidy are bytes
-deletion-byte : (s : HaplotypeCallerActivityScoringParams) → settingsInRange s ≡ true → s .«ref_model_deletion_qual» ≤ 255
-unfolding settingsInRange
-deletion-byte s e =
-    let least : s .«ref_model_deletion_qual» ≤ 254 = search (leb-true, and-left, and-right) depth 12 in
-    omega arith
-
 ploidy-small : (s : HaplotypeCallerActivityScoringParams) → settingsInRange s ≡ true → ploidyOf s ≤ 100
 unfolding settingsInRange
 ploidy-small s e = search (leb-true, and-left, and-right) depth 12
@@ -132,7 +125,7 @@ score-by-filled s t u table priors held few held-priors few-priors contig p word
     score-plain s table priors contig p words
     (λ e.
     let small = ploidy-small s e in (
-      λ n ws. likelihoods-by-filled s t table n ws held few (omega (arith, small)) (deletion-byte s e),
+      λ n ws. likelihoods-by-filled s t table n ws held few (omega (arith, small)),
       λ gl l. posterior-filled (ploidyOf u) (u .«snp_heterozygosity») (u .«heterozygosity_standard_deviation») (s .«snp_heterozygosity») (s .«heterozygosity_standard_deviation») priors gl
           held-priors few-priors (omega (arith, small, l)),
     ))
@@ -168,7 +161,7 @@ score-own s l k contig p words =
     score-plain s (filled s l) (priorsFilled s k) contig p words
     (λ e.
     let small = ploidy-small s e in (
-      λ n ws. likelihoods-by-own s l n ws (omega (arith, small)) (deletion-byte s e),
+      λ n ws. likelihoods-by-own s l n ws (omega (arith, small)),
       λ gl g. posterior-own (ploidyOf s) (s .«snp_heterozygosity») (s .«heterozygosity_standard_deviation») k gl g (omega (arith, small)),
     ))
 

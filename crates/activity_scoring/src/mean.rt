@@ -1,6 +1,7 @@
 // The running mean of clip counts.
 use crate::RunningMean;
 use genotype_likelihoods::HaplotypeCallerActivityScoringParams;
+use pileup_words::NEXT_TO_CLIP;
 use pileup_words::PileupObservation;
 ghost use mathlib.Core.Path.{_≡_};
 ghost use mathlib.Core.Bool.{false};
@@ -43,11 +44,11 @@ fn has_clips(pile: &[u32]) -> bool
     found
 }
 
+// Two bits that stand side by side, tested at once.
 fn is_next_to_clip(w: u32) -> bool
     ensures { λ r. ⌜ r ≡ nextToClip w ⌝ }
 {
-    let obs = PileupObservation::from_word(w);
-    obs.is_alt & obs.is_next_to_soft_clip
+    w / NEXT_TO_CLIP % 4 == 3
 }
 
 fn with_word(r: RunningMean, w: u32, params: HaplotypeCallerActivityScoringParams) -> RunningMean

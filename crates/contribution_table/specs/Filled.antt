@@ -19,12 +19,14 @@ use Rattle.lists.specs.Tests.{and-left, and-right}
 use Rattle.doubles.specs.Constants.{zeroF}
 use Rattle.numbers.specs.Same.{samePositive, same-is, none-is-nan, none-is-zero, whole-is}
 use Rattle.genotype_likelihoods.specs.declared.HaplotypeCallerActivityScoringParams.{HaplotypeCallerActivityScoringParams}
+use Rattle.genome.specs.Ranges.{missingQuality}
 use Rattle.pileup_words.specs.Words.{observation}
-use Rattle.genotype_likelihoods.specs.Observation.{effectiveQual, qualOf, skipped}
+use Rattle.genotype_likelihoods.specs.Observation.{qualOf, skipped}
 use Rattle.genotype_likelihoods.specs.Contribution.{contributionOf, log10Whole}
+use Rattle.genotype_likelihoods.specs.Skipped.{counted-has-quality}
 use Rattle.genotype_likelihoods.specs.Likelihoods.{weight, gained, taken, counted, less, likelihoods}
 use Rattle.contribution_table.specs.Table.{ploidyOf, multiplierOf, ploidyNumber, heading, rows, rowLength, rowsLength, tableLength, cellOf, entryAt, cellAt}
-use Rattle.contribution_table.specs.Table.{tabled, filled, rowOf, takenAt, likelihoodAt, carries, isFor, serves, likelihoodsBy}
+use Rattle.contribution_table.specs.Table.{tabled, filled, rowOf, takenAt, likelihoodAt, carries, isFor, inRows, serves, likelihoodsBy}
 
 -- ---- the plain likelihoods, genotype by genotype
 
@@ -116,30 +118,21 @@ module _ (s t : HaplotypeCallerActivityScoringParams) (table : List Float) (held
 
 module _ (s : HaplotypeCallerActivityScoringParams) (rs : List Float) (held : Rows s rs) where
   -- entry i of row r
-  entry : (r i : ℕ) → r < 512 → i < rowLength (ploidyOf s) → getD rs (r * rowLength (ploidyOf s) + i) nan ≡ cellOf s r i
+  entry : (r i : ℕ) → r < rows → i < rowLength (ploidyOf s) → getD rs (r * rowLength (ploidyOf s) + i) nan ≡ cellOf s r i
   unfolding entryAt
   entry r i h k =
       let n = rowLength (ploidyOf s) in
       let some : 0 < n = omega arith in
-      let below : r * n + i < 512 * n = omega (arith, mul-le-mul-right n h) in
+      let inside : r * n + i < rows * n = omega (arith, mul-le-mul-right n h) in
       let row : (r * n + i) / n ≡ r = mul-add-div-right some r i ∙ rw (div-eq-of-lt k, add-zero) in
       let place : (r * n + i) % n ≡ i = mul-add-mod-self-right r n i ∙ mod-eq-of-lt k in
-      held (r * n + i) (omega (arith, below)) ∙ rw (lt-ltb (r * n + i) (512 * n) below, row, place)
+      held (r * n + i) (omega (arith, inside)) ∙ rw (lt-ltb (r * n + i) (rows * n) inside, row, place)
 
   last : getD rs (rows * rowLength (ploidyOf s)) nan ≡ log10Whole (ploidyOf s)
   unfolding entryAt
   last = held (rows * rowLength (ploidyOf s)) (omega arith) ∙ rw (le-ltb (rows * rowLength (ploidyOf s)) (rows * rowLength (ploidyOf s)) (omega arith))
 
 -- ---- so the sums are the same
-
--- the quality that counts is a byte: a word's own is, and the deletion quality is where the settings are
-qual-byte : (s : HaplotypeCallerActivityScoringParams) (w : ℕ) → s .«ref_model_deletion_qual» ≤ 255 → qualOf s w ≤ 255
-unfolding effectiveQual
-qual-byte s w h = go (observation w .«is_deletion»)
-  where
-    go : (b : Bool) → cond b (s .«ref_model_deletion_qual») (w / 0x40_0000 % 256) ≤ 255
-    go true = h
-    go false = omega arith
 
 -- the row of a word tells its quality and whether it is alternate
 cell-of-row : (s : HaplotypeCallerActivityScoringParams) (q : ℕ) (alt : Bool) (i : ℕ) → cellOf s (q * 2 + cond alt 1 0) i ≡ mul binary64 (weight s alt) (contributionOf q alt i (ploidyOf s))
@@ -152,65 +145,72 @@ cell-of-row s q false i =
     let half : (q * 2 + 0) / 2 ≡ q = omega arith in
     rw (even, half)
 
-row-below : (q : ℕ) (alt : Bool) → q ≤ 255 → q * 2 + cond alt 1 0 < 512
+row-below : (q : ℕ) (alt : Bool) → q < missingQuality → q * 2 + cond alt 1 0 < rows
 row-below q true h = omega arith
 row-below q false h = omega arith
 
-taken-same : (s : HaplotypeCallerActivityScoringParams) (rs : List Float) → Rows s rs → s .«ref_model_deletion_qual» ≤ 255
+taken-same : (s : HaplotypeCallerActivityScoringParams) (rs : List Float) → Rows s rs → s .«ref_model_deletion_qual» < missingQuality
     → (i : ℕ) → i < rowLength (ploidyOf s) → (x : Float) (w : ℕ) → takenAt rs s i x w ≡ plainAt s i x w
 unfolding takenAt
-taken-same s rs held byte i h x w =
-    ap (λ (y : Float). cond (skipped s w) x (add binary64 x y))
-    (entry s rs held (rowOf s w) i (row-below (qualOf s w) (observation w .«is_alt») (qual-byte s w byte)) h ∙ cell-of-row s (qualOf s w) (observation w .«is_alt») i)
+taken-same s rs held few i h x w = go (skipped s w) refl
+  where
+    alt : Bool
+    alt = observation w .«is_alt»
 
-by-rows : (s : HaplotypeCallerActivityScoringParams) (rs : List Float) → Rows s rs → s .«ref_model_deletion_qual» ≤ 255
+    go : (b : Bool) → skipped s w ≡ b
+        → cond b x (add binary64 x (getD rs (rowOf s w * rowLength (ploidyOf s) + i) nan)) ≡ cond b x (gained (qualOf s w) alt (weight s alt) (ploidyOf s) i x)
+    go true e = refl
+    go false e = ap (add binary64 x) (entry s rs held (rowOf s w) i (row-below (qualOf s w) alt (counted-has-quality s w few e)) h ∙ cell-of-row s (qualOf s w) alt i)
+
+by-rows : (s : HaplotypeCallerActivityScoringParams) (rs : List Float) → Rows s rs → s .«ref_model_deletion_qual» < missingQuality
     → (n : ℕ) → n ≤ rowLength (ploidyOf s) → (words : List ℕ)
     → tabulate (likelihoodAt rs s words (foldl (counted s) 0 words)) n ≡ likelihoods s n words
-by-rows s rs held byte n h words =
+by-rows s rs held few n h words =
     let f = likelihoodAt rs s words (foldl (counted s) 0 words) in
     let g : ℕ → Float = λ i. less (plainShare s words) i (foldl (plainAt s i) zeroF words) in
     let at : (k : ℕ) → k < length (tabulate f n) → getD (tabulate f n) k nan ≡ getD (tabulate g n) k nan = λ k below.
     let less-n : k < n = rw (length-tabulate f n) at below in
-    let same : f k ≡ g k = rw (last s rs held, foldl-same (takenAt rs s k) (plainAt s k) zeroF words (taken-same s rs held byte k (omega arith))) in
+    let same : f k ≡ g k = rw (last s rs held, foldl-same (takenAt rs s k) (plainAt s k) zeroF words (taken-same s rs held few k (omega arith))) in
     getD-tabulate f n k nan less-n ∙ same ∙ sym (getD-tabulate g n k nan less-n) in
     ext-getD nan (tabulate f n) (tabulate g n) (length-tabulate f n ∙ sym (length-tabulate g n)) at ∙ sym (plain-likelihoods s n words)
 
 -- ---- the laws
 
--- filled for t, read for s; a ploidy and a quality are bytes
+-- filled for t, read for s; a ploidy is a byte
 pub likelihoods-by-filled : (s t : HaplotypeCallerActivityScoringParams) (table : List Float) (n : ℕ) (words : List ℕ) → Holds t table
-    → ploidyOf t ≤ 255 → ploidyOf s ≤ 255 → s .«ref_model_deletion_qual» ≤ 255 → likelihoodsBy table s n words ≡ likelihoods s n words
+    → ploidyOf t ≤ 255 → ploidyOf s ≤ 255 → likelihoodsBy table s n words ≡ likelihoods s n words
 unfolding likelihoodsBy serves
-likelihoods-by-filled s t table n words held few small byte = go (leb n (rowLength (ploidyOf s)) && isFor table s) refl
+likelihoods-by-filled s t table n words held few small = go (inRows s n && isFor table s) refl
   where
-    go : (b : Bool) → (leb n (rowLength (ploidyOf s)) && isFor table s) ≡ b
+    go : (b : Bool) → (inRows s n && isFor table s) ≡ b
         → cond b (tabulate (likelihoodAt (drop heading table) s words (foldl (counted s) 0 words)) n) (likelihoods s n words) ≡ likelihoods s n words
     go true e =
-        by-rows s (drop heading table) (rows-held s t table held few small (and-right (leb n (rowLength (ploidyOf s))) _ e)) byte n
-        (leb-true _ _ (and-left (leb n (rowLength (ploidyOf s))) _ e)) words
+        let inside = and-left (inRows s n) _ e in
+        by-rows s (drop heading table) (rows-held s t table held few small (and-right (inRows s n) _ e)) (ltb-true _ _ (and-right (leb n (rowLength (ploidyOf s))) _ inside)) n
+        (leb-true _ _ (and-left (leb n (rowLength (ploidyOf s))) _ inside)) words
     go false e = refl
 
 -- a table that is not for the call is not read
 unread : (s : HaplotypeCallerActivityScoringParams) (table : List Float) (n : ℕ) (words : List ℕ) → isFor table s ≡ false → likelihoodsBy table s n words ≡ likelihoods s n words
 unfolding likelihoodsBy serves
-unread s table n words e = rw e (go (leb n (rowLength (ploidyOf s))))
+unread s table n words e = rw e (go (inRows s n))
   where
     go : (b : Bool) → cond (b && false) (tabulate (likelihoodAt (drop heading table) s words (foldl (counted s) 0 words)) n) (likelihoods s n words) ≡ likelihoods s n words
     go true = refl
     go false = refl
 
 -- filled for the call's own settings, any slice will do: one that was too short to be filled, or is too long, is not read
-pub likelihoods-by-own : (s : HaplotypeCallerActivityScoringParams) (l : List Float) (n : ℕ) (words : List ℕ) → ploidyOf s ≤ 255 → s .«ref_model_deletion_qual» ≤ 255
+pub likelihoods-by-own : (s : HaplotypeCallerActivityScoringParams) (l : List Float) (n : ℕ) (words : List ℕ) → ploidyOf s ≤ 255
     → likelihoodsBy (filled s l) s n words ≡ likelihoods s n words
 unfolding filled
-likelihoods-by-own s l n words small byte = go (ltb (length l) (tableLength (ploidyOf s))) (ltb-true (length l) (tableLength (ploidyOf s))) (ltb-false (length l) (tableLength (ploidyOf s))) refl
+likelihoods-by-own s l n words small = go (ltb (length l) (tableLength (ploidyOf s))) (ltb-true (length l) (tableLength (ploidyOf s))) (ltb-false (length l) (tableLength (ploidyOf s))) refl
   where
     go : (b : Bool) → (b ≡ true → length l < tableLength (ploidyOf s)) → (b ≡ false → tableLength (ploidyOf s) ≤ length l) → ltb (length l) (tableLength (ploidyOf s)) ≡ b
         → likelihoodsBy (filled s l) s n words ≡ likelihoods s n words
     go true f g e =
         let short : filled s l ≡ l = rw e in
         rw short (unread s l n words (rw (ne-eqb (length l) (tableLength (ploidyOf s)) (λ same. absurd (omega (arith, same, f refl))))))
-    go false f g e = likelihoods-by-filled s s (filled s l) n words (filled-holds s l (g refl)) small small byte
+    go false f g e = likelihoods-by-filled s s (filled s l) n words (filled-holds s l (g refl)) small small
 
 -- so it is by a slice of zeros that nothing was filled into, of any length
 pub likelihoods-by-zeros : (s : HaplotypeCallerActivityScoringParams) (k n : ℕ) (words : List ℕ) → likelihoodsBy (replicate k zeroF) s n words ≡ likelihoods s n words

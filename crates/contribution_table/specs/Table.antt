@@ -11,6 +11,7 @@ use Rattle.lists.specs.Loops.{foldl}
 use Rattle.lists.specs.Each.{each, tabulate}
 use Rattle.doubles.specs.Constants.{zeroF}
 use Rattle.numbers.specs.Same.{samePositive}
+use Rattle.genome.specs.Ranges.{missingQuality}
 use Rattle.genotype_likelihoods.specs.declared.HaplotypeCallerActivityScoringParams.{HaplotypeCallerActivityScoringParams}
 use Rattle.pileup_words.specs.Words.{observation}
 use Rattle.genotype_likelihoods.specs.Observation.{qualOf, skipped}
@@ -32,9 +33,9 @@ ploidyNumber s = ofInt binary64 (pos (ploidyOf s))
 abbrev pub heading : ℕ
 heading = 2
 
--- a row for each quality, plain and alternate
+-- a row for each quality from 0 to 254, plain and alternate: a word that is not skipped has a quality, and the deletion quality is 254 at most
 abbrev pub rows : ℕ
-rows = 512
+rows = 510
 
 -- a row has an entry for each genotype, ploidy + 1 of them, and is as long as the next multiple of 4
 abbrev pub rowLength : ℕ → ℕ
@@ -102,11 +103,14 @@ carries table s = samePositive (getD table 0 nan) (ploidyNumber s) && samePositi
 abbrev pub isFor : List Float → HaplotypeCallerActivityScoringParams → Bool
 isFor table s = eqb (length table) (tableLength (ploidyOf s)) && carries table s
 
--- and n genotypes have their entries in its rows
-unfoldable pub serves : List Float → HaplotypeCallerActivityScoringParams → ℕ → Bool
-serves table s n = leb n (rowLength (ploidyOf s)) && isFor table s
+-- n genotypes have their entries in the rows, and so do deletions
+abbrev pub inRows : HaplotypeCallerActivityScoringParams → ℕ → Bool
+inRows s n = leb n (rowLength (ploidyOf s)) && ltb (s .«ref_model_deletion_qual») missingQuality
 
--- a table of other settings, or of another length, is not looked at
+unfoldable pub serves : List Float → HaplotypeCallerActivityScoringParams → ℕ → Bool
+serves table s n = inRows s n && isFor table s
+
+-- a table that does not serve is not looked at
 unfoldable pub likelihoodsBy : List Float → HaplotypeCallerActivityScoringParams → ℕ → List ℕ → List Float
 likelihoodsBy table s n words =
     cond (serves table s n) (tabulate (likelihoodAt (drop heading table) s words (foldl (counted s) 0 words)) n) (likelihoods s n words)

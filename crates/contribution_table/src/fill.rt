@@ -66,7 +66,7 @@ fn entry_at(j: usize, params: HaplotypeCallerActivityScoringParams) -> f64
 
 // What a row's observation adds to a genotype.
 fn cell_of(row: usize, genotype: usize, params: HaplotypeCallerActivityScoringParams) -> f64
-    requires { ⌜ row < 512 ⌝ }
+    requires { ⌜ row < 510 ⌝ }
     ensures { λ r. ⌜ r ≡ cellOf params row genotype ⌝ }
 {
     let is_alt = row % 2 == 1;

@@ -13,8 +13,8 @@ pub use likelihoods::calc_ref_vs_any_log10_genotype_likelihoods_by_table;
 // The settings that a table carries in front of its rows.
 pub const HEADING: usize = 2;
 
-// A row for each quality, plain and alternate.
-pub const ROWS: usize = 512;
+// A row for each quality below the missing one, plain and alternate.
+pub const ROWS: usize = 510;
 
 // The sums of four genotypes over some words, and how many of the words were not skipped.
 pub struct Sums {

@@ -4,6 +4,7 @@ use crate::ROWS;
 use crate::Sums;
 use crate::fill::row_length;
 use crate::fill::table_length;
+use genome::MISSING_QUALITY;
 use genotype_likelihoods::HaplotypeCallerActivityScoringParams;
 use pileup_words::PileupObservation;
 ghost use mathlib.Core.Path.{_≡_};
@@ -12,12 +13,14 @@ ghost use Prim.Native.Nat.{_+_, _*_, _/_, _%_, _<_, _≤_};
 ghost use lib.ListN.{length};
 ghost use Rattle.lists.specs.Each.{tabulate};
 ghost use Rattle.lists.specs.Loops.{foldl};
+ghost use Rattle.genome.specs.Ranges.{missingQuality};
 ghost use Rattle.genotype_likelihoods.specs.Likelihoods.{counted};
 ghost use Rattle.contribution_table.specs.Table.{ploidyOf, rowLength, rowsLength, serves, sumAt, likelihoodAt, likelihoodsBy};
 ghost use Rattle.contribution_table.specs.Sums.{noSums, allTaken, sumsFrom, sumIn};
 
 // Writes what `genotype_likelihoods::calc_ref_vs_any_log10_genotype_likelihoods` writes. A table that carries other
-// settings, or is of another length than `table_length`, is not looked at, and neither is one with too few genotypes.
+// settings, or is of another length than `table_length`, is not looked at, and neither is one with too few genotypes, or
+// where the deletion quality is the missing one, which has no row.
 pub fn calc_ref_vs_any_log10_genotype_likelihoods_by_table(
     gl: &mut [f64],
     pile: &[u32],
@@ -33,7 +36,7 @@ pub fn calc_ref_vs_any_log10_genotype_likelihoods_by_table(
     write_likelihoods(gl, pile, params, &table[HEADING..]);
 }
 
-// Whether a table carries these settings, and has entries for so many genotypes.
+// Whether a table carries these settings, and has entries for so many genotypes and for deletions.
 fn is_for(table: &[f64], genotypes: usize, params: HaplotypeCallerActivityScoringParams) -> bool
     ensures { λ r. ⌜ r ≡ serves (now (table .entry)) params genotypes ⌝ }
 {
@@ -44,7 +47,8 @@ fn is_for(table: &[f64], genotypes: usize, params: HaplotypeCallerActivityScorin
     }
     let ploidy = numbers::same_positive(table[0], p.0 as f64);
     let multiplier = numbers::same_positive(table[1], params.active_region_alt_multiplier);
-    (genotypes <= row) & (ploidy & multiplier)
+    let entries = (genotypes <= row) & (params.ref_model_deletion_qual < MISSING_QUALITY);
+    entries & (ploidy & multiplier)
 }
 
 // Writes each genotype's likelihood, by the rows of a table.
@@ -54,7 +58,9 @@ fn write_likelihoods(
     params: HaplotypeCallerActivityScoringParams,
     rows: &[f64],
 )
-    requires { ⌜ (length (now gl) ≤ rowLength (ploidyOf params)) × (rowsLength (ploidyOf params) ≤ length (now rows)) ⌝ }
+    requires { ⌜ (length (now gl) ≤ rowLength (ploidyOf params))
+        × (rowsLength (ploidyOf params) ≤ length (now rows))
+        × (params .«ref_model_deletion_qual» < missingQuality) ⌝ }
     ensures { λ _. ⌜ now (gl .exit)
         ≡ tabulate (likelihoodAt (now (rows .entry)) params (now (pile .entry)) (foldl (counted params) 0 (now (pile .entry))))
         (length (now (gl .entry))) ⌝ }
@@ -72,7 +78,9 @@ fn write_sums(
     params: HaplotypeCallerActivityScoringParams,
     rows: &[f64],
 ) -> u64
-    requires { ⌜ (length (now gl) ≤ rowLength (ploidyOf params)) × (rowsLength (ploidyOf params) ≤ length (now rows)) ⌝ }
+    requires { ⌜ (length (now gl) ≤ rowLength (ploidyOf params))
+        × (rowsLength (ploidyOf params) ≤ length (now rows))
+        × (params .«ref_model_deletion_qual» < missingQuality) ⌝ }
     ensures { λ r. ⌜ (0 < length (now (gl .entry)) → r ≡ foldl (counted params) 0 (now (pile .entry))) ⌝ }
     ensures { λ _. ⌜ now (gl .exit) ≡ tabulate (sumAt (now (rows .entry)) params (now (pile .entry))) (length (now (gl .entry))) ⌝ }
 {
@@ -108,6 +116,7 @@ fn sums_at(
 ) -> Sums
     requires { ⌜ (i < rowLength (ploidyOf params))
         × (rowsLength (ploidyOf params) ≤ length (now rows))
+        × (params .«ref_model_deletion_qual» < missingQuality)
         × (0 < i % 4 → sums ≡ sumsFrom (now rows) params (now pile) (i / 4 * 4)) ⌝ }
     ensures { λ r. ⌜ r ≡ sumsFrom (now (rows .entry)) params (now (pile .entry)) (i / 4 * 4) ⌝ }
 {
@@ -124,7 +133,9 @@ fn sums_from(
     rows: &[f64],
     i: usize,
 ) -> Sums
-    requires { ⌜ (i + 4 ≤ rowLength (ploidyOf params)) × (rowsLength (ploidyOf params) ≤ length (now rows)) ⌝ }
+    requires { ⌜ (i + 4 ≤ rowLength (ploidyOf params))
+        × (rowsLength (ploidyOf params) ≤ length (now rows))
+        × (params .«ref_model_deletion_qual» < missingQuality) ⌝ }
     ensures { λ r. ⌜ r ≡ sumsFrom (now (rows .entry)) params (now (pile .entry)) i ⌝ }
 {
     let row = row_length(params.sample_ploidy);
@@ -150,7 +161,8 @@ fn with_word(
         × (row ≡ rowLength (ploidyOf params))
         × (row ≤ 256)
         × (i + 4 ≤ row)
-        × (rowsLength (ploidyOf params) ≤ length (now rows)) ⌝ }
+        × (rowsLength (ploidyOf params) ≤ length (now rows))
+        × (params .«ref_model_deletion_qual» < missingQuality) ⌝ }
     ensures { λ r. ⌜ r ≡ allTaken (now (rows .entry)) params i sums w ⌝ }
 {
     let obs = PileupObservation::from_word(w);
@@ -170,15 +182,16 @@ fn with_word(
 
 // The place of genotype i in the row of an observation.
 fn place_of(qual: u8, is_alt: bool, row: usize, i: usize) -> usize
-    requires { ⌜ (row ≤ 256) × (i + 4 ≤ row) ⌝ }
-    ensures { λ r. ⌜ (r ≡ (qual * 2 + cond «is_alt» 1 0) * row + i) × (r + 4 ≤ 512 * row) ⌝ }
+    requires { ⌜ (qual < missingQuality) × (row ≤ 256) × (i + 4 ≤ row) ⌝ }
+    ensures { λ r. ⌜ (r ≡ (qual * 2 + cond «is_alt» 1 0) * row + i) × (r + 4 ≤ 510 * row) ⌝ }
 {
     let above = row_of(qual, is_alt);
     above * row + i
 }
 
 fn row_of(qual: u8, is_alt: bool) -> usize
-    ensures { λ r. ⌜ (r ≡ qual * 2 + cond «is_alt» 1 0) × (r ≤ 511) ⌝ }
+    requires { ⌜ qual < missingQuality ⌝ }
+    ensures { λ r. ⌜ (r ≡ qual * 2 + cond «is_alt» 1 0) × (r < 510) ⌝ }
 {
     if is_alt {
         return qual as usize * 2 + 1;

@@ -1,4 +1,4 @@
--- 01, Ranges: those that more than one chapter names.
+-- 01, Ranges: those that more than one chapter names; and the byte of a missing quality.
 use mathlib.Core.Bool.{Bool}
 use Prim.Native.Nat.{ℕ}
 use lib.Ieee.{Float}
@@ -16,3 +16,7 @@ isPosition n = between 1 n maxPosition
 -- "0.0 to 1.0": a threshold, a probability
 abbrev pub isProbability : Float → Bool
 isProbability x = within zeroF x oneF
+
+-- 02, U3: "The SAM specification uses byte 255 for a missing quality"
+abbrev pub missingQuality : ℕ
+missingQuality = 255

@@ -1,4 +1,5 @@
-// Units on the genome, the longest contig, and document 01's refusals with their numbers. No public function has a `requires`.
+// Units on the genome, the longest contig, the byte of a missing quality, and document 01's refusals with their numbers.
+// No public function has a `requires`.
 ghost use mathlib.Core.Path.{_≡_};
 ghost use Rattle.genome.specs.Refusals.{numberOf};
 
@@ -10,6 +11,9 @@ pub struct Ploidy(pub u8);
 
 // The longest contig, and so the last position: document 01, 'Ranges'.
 pub const MAX_POSITION: u32 = 1_073_741_823;
+
+// The byte that SAM has where a base has no quality: document 02, U3.
+pub const MISSING_QUALITY: u8 = 255;
 
 // Document 01's refusals.
 pub enum Refusal {

@@ -5,7 +5,7 @@ use Prim.Native.Nat.{ℕ, _-_}
 use lib.IntN.{pos}
 use lib.Dec.{eqb}
 use lib.Ieee.{Float, binary64, ofBits, ofInt, add, sub, mul, div, neg}
-use Rattle.doubles.specs.Constants.{zeroF, oneF, tenF}
+use Rattle.doubles.specs.Constants.{oneF, tenF}
 use Rattle.elementary.specs.Exp.{tenToOf}
 use Rattle.elementary.specs.Ln.{log10Of}
 use Rattle.log10_sums.specs.Pair.{approximateLog10SumLog10Pair}
@@ -14,9 +14,9 @@ use Rattle.log10_sums.specs.Pair.{approximateLog10SumLog10Pair}
 unfoldable pub errorProb : ℕ → Float
 errorProb q = tenToOf (div binary64 (neg (ofInt binary64 (pos q))) tenF)
 
--- log10 (1 − that); "Quality 255 counts as certain: log10 probability 0.0"
+-- log10 (1 − that)
 unfoldable pub qualToProbLog10 : ℕ → Float
-qualToProbLog10 q = cond (eqb q 255) zeroF (log10Of (sub binary64 oneF (errorProb q)))
+qualToProbLog10 q = log10Of (sub binary64 oneF (errorProb q))
 
 -- q × −0.1 + LOG10_ONE_THIRD
 unfoldable pub qualToErrorProbLog10Third : ℕ → Float

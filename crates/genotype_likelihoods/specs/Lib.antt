@@ -3,3 +3,4 @@ pub mod Observation
 pub mod Contribution
 pub mod Likelihoods
 pub mod Lengths
+pub mod Skipped

@@ -33,13 +33,10 @@ pub fn error_prob(qual: u8) -> f64
     elementary::ten_to(-(qual as f64) / 10.0)
 }
 
-// log10 of the probability that a base of this quality is right; 255 counts as certain.
+// log10 of the probability that a base of this quality is right.
 fn qual_to_prob_log10(qual: u8) -> f64
     ensures { λ r. ⌜ r ≡ qualToProbLog10 qual ⌝ }
 {
-    if qual == 255 {
-        return 0.0;
-    }
     elementary::log10(1.0 - error_prob(qual))
 }
 

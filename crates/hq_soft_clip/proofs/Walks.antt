@@ -5,34 +5,30 @@ use mathlib.Core.List.{List, [], _∷_}
 use Prim.Native.Nat.{ℕ, suc, _+_, _-_, _≤_, min}
 use native.Mathlib.Nat.{le-refl}
 use native.Mathlib.Omega.{arith}
-use lib.Dec.{ltb}
 use lib.ListN.{length, take, drop, length-drop, drop-of-length-le}
 use lib.Seq.{take-all}
 use Rattle.lists.specs.Loops.{foldl}
 use Rattle.lists.specs.Window.{lt-or-le}
 use mathlib.Core.Logic.{⊎-elim}
 use Rattle.hq_soft_clip.specs.declared.Walk.{Walk}
-use Rattle.hq_soft_clip.specs.SoftClips.{operation, advances, isSoftClip, span, withBase, countHigh, clipped, walked, capped}
+use Rattle.hq_soft_clip.specs.SoftClips.{operation, advances, isSoftClip, span, isHigh, withBase, countHigh, clipped, walked, capped}
 
 -- ---- a count of high qualities is no longer than the list
 count-le : (qs : List ℕ) (n : ℕ) → foldl withBase n qs ≤ n + length qs
 unfolding foldl
 count-le [] n = omega arith
-count-le (q ∷ qs) n = go (ltb 28 q) (count-le qs (withBase n q))
+count-le (q ∷ qs) n = go (isHigh q) (count-le qs (withBase n q))
   where
-    go : (b : Bool) → foldl withBase (cond (ltb 28 q) (n + 1) n) qs ≤ cond (ltb 28 q) (n + 1) n + length qs → foldl withBase (cond (ltb 28 q) (n + 1) n) qs ≤ n + suc (length qs)
-    go b h = step (ltb 28 q) h
-      where
-        step : (c : Bool) → foldl withBase (cond c (n + 1) n) qs ≤ cond c (n + 1) n + length qs → foldl withBase (cond c (n + 1) n) qs ≤ n + suc (length qs)
-        step true k = omega arith
-        step false k = omega arith
+    go : (b : Bool) → foldl withBase (cond b (n + 1) n) qs ≤ cond b (n + 1) n + length qs → foldl withBase (cond b (n + 1) n) qs ≤ n + suc (length qs)
+    go true k = omega arith
+    go false k = omega arith
 
 pub countHigh-le : (qs : List ℕ) → countHigh qs ≤ length qs
 unfolding countHigh
 countHigh-le qs = omega (arith, count-le qs 0)
 
 pub base-le : (n q : ℕ) → withBase n q ≤ n + 1
-base-le n q = go (ltb 28 q)
+base-le n q = go (isHigh q)
   where
     go : (b : Bool) → cond b (n + 1) n ≤ n + 1
     go true = omega arith

@@ -1,1 +1,2 @@
 pub mod SoftClips
+pub mod Missing

@@ -1,10 +1,11 @@
--- 01, Soft-clip count, with the SAM specification's CIGAR operations: 0 to 8 are M I D N S H P = X.
-use mathlib.Core.Bool.{Bool, false, cond, _||_}
+-- 01, Soft-clip count, and 02, U3; with the SAM specification's CIGAR operations: 0 to 8 are M I D N S H P = X.
+use mathlib.Core.Bool.{Bool, false, cond, not, _&&_, _||_}
 use mathlib.Core.List.{List}
 use Prim.Native.Nat.{ℕ, _+_, _/_, _%_, min}
 use lib.Dec.{eqb, ltb}
 use lib.ListN.{take, drop}
 use Rattle.lists.specs.Loops.{foldl}
+use Rattle.genome.specs.Ranges.{missingQuality}
 use Rattle.genome.specs.Refusals.{Outcome, refused, answered, numberOf, wordRefusal}
 use Rattle.hq_soft_clip.specs.declared.Walk.{Walk}
 use Rattle.hq_soft_clip.specs.declared.SoftClips.{SoftClips}
@@ -29,9 +30,13 @@ advances w = eqb (operation w) 0 || eqb (operation w) 1 || eqb (operation w) 4 |
 abbrev pub orUnknown : Bool → ℕ → Bool
 orUnknown b w = b || ltb 8 (operation w)
 
--- one base more, whose quality is q: "strictly above 28"
+-- "strictly above 28"; 02, U3: "In the soft-clip count 255 is not above 28"
+abbrev pub isHigh : ℕ → Bool
+isHigh q = ltb 28 q && not (eqb q missingQuality)
+
+-- one base more, whose quality is q
 abbrev pub withBase : ℕ → ℕ → ℕ
-withBase n q = cond (ltb 28 q) (n + 1) n
+withBase n q = cond (isHigh q) (n + 1) n
 
 -- the bases of high quality in a list of qualities
 unfoldable pub countHigh : List ℕ → ℕ

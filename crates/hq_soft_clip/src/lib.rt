@@ -1,5 +1,6 @@
 // The count of high-quality soft-clipped bases: document 01, 'Soft-clip count', after the Rust's hq_soft_clip.rs, with
 // the SAM specification's CIGAR operations. No public function has a `requires`.
+use genome::MISSING_QUALITY;
 use genome::Refusal;
 ghost use mathlib.Core.Path.{_≡_};
 ghost use mathlib.Core.Bool.{false, cond};
@@ -29,8 +30,8 @@ const SOFT_CLIP: u32 = 4;
 const RCM_HQ_SOFT_CLIP_QUAL_THRESHOLD: u8 = 28;
 
 // How many soft-clipped bases have a quality strictly above 28, over CIGAR words as BAM stores them (length in the high
-// 28 bits, operation in the low 4). A missing quality counts as 0. Refuses an operation from 9 on. The cost is bounded
-// by the numbers of words and qualities, whatever lengths the words claim.
+// 28 bits, operation in the low 4). A missing quality, 255 or none at all, counts as 0. Refuses an operation from 9 on.
+// The cost is bounded by the numbers of words and qualities, whatever lengths the words claim.
 pub fn count_high_quality_soft_clip_bases_rcm(cigar: &[u32], qualities: &[u8]) -> SoftClips
     ensures { λ r. ⌜ clipCountOf r ≡ clipCount (now (cigar .entry)) (now (qualities .entry)) ⌝ }
 {
@@ -126,12 +127,12 @@ fn count_high(qualities: &[u8]) -> u64
     n
 }
 
-// One base more, counted where its quality is high.
+// One base more, counted where its quality is high. The missing one, 255, is not.
 fn with_base(n: u64, quality: u8) -> u64
     requires { ⌜ n < 18446744073709551615 ⌝ }
     ensures { λ r. ⌜ r ≡ withBase n quality ⌝ }
 {
-    if RCM_HQ_SOFT_CLIP_QUAL_THRESHOLD < quality {
+    if (RCM_HQ_SOFT_CLIP_QUAL_THRESHOLD < quality) & (quality != MISSING_QUALITY) {
         return n + 1;
     }
     n

@@ -159,8 +159,8 @@ fn evidence_fields(e: ActivityEvidence) -> [u32; 2]
     }
 }
 
-// Counts the soft-clipped bases of a quality above 28 along CIGAR words. Answers 0 with the count written, or the number
-// of a refusal, which writes nothing.
+// Counts the soft-clipped bases of a quality above 28, which 255 is not, along CIGAR words. Answers 0 with the count
+// written, or the number of a refusal, which writes nothing.
 #[no_mangle]
 pub extern "C" fn region_picker_count_clips(cigar: &[u32], qualities: &[u8], count: &mut u64) -> u32
     ensures { λ r. ⌜ Answers (λ n. n) (clipCount (now (cigar .entry)) (now (qualities .entry)))

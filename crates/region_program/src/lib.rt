@@ -15,7 +15,7 @@ pub const KERNEL: usize = 1001;
 pub const PILE: usize = 16385;
 
 // The tables that piles are scored by, of a ploidy of 2: contribution_table's, and genotype_posterior's list of priors.
-pub const TABLE: usize = 2051;
+pub const TABLE: usize = 2043;
 
 pub const PRIORS: usize = 6;
 

@@ -17,7 +17,8 @@ use Rattle.activity_profile.specs.Peak.{leads, peakIndex}
 use Rattle.genome.specs.Refusals.{Outcome, refused, answered}
 use Rattle.genotype_likelihoods.specs.declared.HaplotypeCallerActivityScoringParams.{HaplotypeCallerActivityScoringParams}
 use Rattle.genotype_likelihoods.specs.Settings.{defaults}
-use Rattle.genotype_likelihoods.specs.Observation.{effectiveQual, skips, qualOf, skipped}
+use Rattle.genotype_likelihoods.specs.Observation.{effectiveQual, lacksQuality, skips, qualOf, skipped}
+use Rattle.genotype_likelihoods.specs.Likelihoods.{counted}
 use Rattle.genotype_posterior.specs.Phred.{minF, plOf}
 use Rattle.activity_scoring.specs.Mean.{withWord, meanOf}
 use Rattle.activity_scoring.specs.Score.{evidenceOf}
@@ -108,7 +109,7 @@ unfolding evidenceTold evidenceOf meanOf word
 clipsOf counts = evidenceTold (evidenceOf (meanOf defaults (map (word 30 0 1 1) counts)))
 
 pub table : List Row
-unfolding popOf told peakTold peakOf popAnswer tenths hundredths profile superStates kept numbered clipCount word minimum skippedOf clipsOf plOf
+unfolding popOf told peakTold peakOf popAnswer tenths hundredths profile superStates kept numbered clipCount word minimum skippedOf clipsOf evidenceTold evidenceOf meanOf plOf
 table =
     record { number = 1; given = popOf (9 ∷ 5 ∷ 2 ∷ 5 ∷ 9 ∷ []) 2 false; wanted = 3 ∷ 1 ∷ 3 ∷ [] }
     ∷ record { number = 2; given = popOf (9 ∷ 2 ∷ 5 ∷ 2 ∷ 9 ∷ []) 2 false; wanted = 3 ∷ 1 ∷ 4 ∷ [] }
@@ -158,11 +159,27 @@ table =
       given = peakTold (popAnswer (profile 1 2 10 12 5) (map tenths (2 ∷ 4 ∷ 3 ∷ 8 ∷ 9 ∷ [])) 0 2 4 true);
       wanted = 12 ∷ 11 ∷ toBits binary64 (tenths 4) ∷ [];
     }
+    -- U3: a base of quality 255 is skipped at every minimum, with the flow model too, and one of 254 at none; a deletion of 255 has deletion quality; neither the count of
+    -- reads, the clip mean nor the soft-clip count has it
+    ∷ record {
+      number = 203;
+      given = map (λ s. skippedOf s (word 255 0 1 0 0)) (minimum 1 false ∷ minimum 1 true ∷ minimum 254 false ∷ minimum 254 true ∷ []);
+      wanted = 1 ∷ 1 ∷ 1 ∷ 1 ∷ [];
+    }
+    ∷ record { number = 203; given = skippedOf (minimum 254 false) (word 254 0 1 0 0) ∷ skippedOf (minimum 254 true) (word 254 0 1 0 0) ∷ []; wanted = 0 ∷ 0 ∷ [] }
+    ∷ record {
+      number = 203;
+      given = qualOf defaults (word 255 1 1 0 0) ∷ map (λ s. skippedOf s (word 255 1 1 0 0)) (minimum 30 true ∷ minimum 31 true ∷ minimum 31 false ∷ []);
+      wanted = 30 ∷ 0 ∷ 1 ∷ 0 ∷ [];
+    }
+    ∷ record { number = 203; given = foldl (counted defaults) 0 (word 255 0 1 0 0 ∷ word 30 0 1 0 0 ∷ word 255 1 1 0 0 ∷ word 255 0 0 0 0 ∷ []) ∷ []; wanted = 2 ∷ [] }
+    ∷ record { number = 203; given = evidenceTold (evidenceOf (meanOf defaults (word 255 0 1 1 40 ∷ word 30 0 1 1 6 ∷ word 255 0 1 1 0 ∷ word 30 0 1 1 8 ∷ []))); wanted = 1 ∷ 7 ∷ [] }
+    ∷ record { number = 203; given = numbered (clipCount ((3 * 16 + 4) ∷ (2 * 16 + 0) ∷ (2 * 16 + 4) ∷ []) (255 ∷ 29 ∷ 254 ∷ 40 ∷ 40 ∷ 40 ∷ 255 ∷ [])); wanted = 1 ∷ 3 ∷ [] }
     ∷ []
 
 -- the one proof
 pub table-right : allRight table ≡ true
-unfolding table allRight same popOf told peakTold peakOf tenths hundredths profile popAnswer popAnswerBy popVerdict turn kept broken settingsInRange placed qualifies beats replaces better bestCutSite orMost sizeOf popSize regionWith regionOf leads peakIndex along rest superStates numbered clipCount countHigh walked word minimum skippedOf clipsOf evidenceTold effectiveQual skips evidenceOf meanOf withWord plOf minF toUnsigned ofInt add sub div ne foldl down firstAt each upTo lt le neg ofBits toBits round
+unfolding table allRight same popOf told peakTold peakOf tenths hundredths profile popAnswer popAnswerBy popVerdict turn kept broken settingsInRange placed qualifies beats replaces better bestCutSite orMost sizeOf popSize regionWith regionOf leads peakIndex along rest superStates numbered clipCount countHigh walked word minimum skippedOf clipsOf evidenceTold effectiveQual lacksQuality skips counted evidenceOf meanOf withWord plOf minF toUnsigned ofInt add sub div ne foldl down firstAt each upTo lt le neg ofBits toBits round
 table-right = refl
 
 -- every row

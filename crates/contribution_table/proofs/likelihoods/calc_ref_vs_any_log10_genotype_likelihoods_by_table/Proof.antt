@@ -7,7 +7,7 @@ use lib.Seq.{take-all}
 use mathlib.Core.List.{List}
 use mathlib.Core.Path.{_∙_, _≡_, ap, sym}
 use native.Mathlib.Omega.{arith}
-use Rattle.contribution_table.proofs.Rows.{serves-length, serves-row}
+use Rattle.contribution_table.proofs.Rows.{serves-deletions, serves-length, serves-row}
 use Rattle.contribution_table.specs.Table.{heading, likelihoodAt, likelihoodsBy}
 use Rattle.genotype_likelihoods.specs.Likelihoods.{counted}
 use Rattle.lists.specs.Each.{tabulate}
@@ -58,6 +58,7 @@ write-likelihoods-requires c κs =
     let e = sym (is .is-for .ensures) ∙ not-false (is .is-for .result) (c .before .before .if1 .left) in (
       serves-row (a .table .now) (a .params) (length (a .gl .now)) e,
       omega (arith, serves-length (a .table .now) (a .params) (length (a .gl .now)) e, length-drop heading (a .table .now)),
+      serves-deletions (a .table .now) (a .params) (length (a .gl .now)) e,
     )
 
 same-length-2 : tie.Need-same-length-2

@@ -38,11 +38,11 @@ same-positive-requires-2 c κs = search needs
 returns-2 : tie.Need-returns-2
 unfolding serves
 returns-2 c =
-    let test = c .before .before .before .before .before in
+    let test = c .before .before .before .before .before .before in
     let lengths = test .before in
     let a = lengths .before .before .before .before .args in
     let long : length (a .table .now) ≡ tableLength (ploidyOf (a .params)) = test .if1 .left ∙ lengths .table-length .ensures in
-    rw (eq-eqb (length (a .table .now)) (tableLength (ploidyOf (a .params))) long, c .same-positive2 .ensures, c .before .before .same-positive .ensures, lengths .before .row-length .ensures .0)
+    rw (eq-eqb (length (a .table .now)) (tableLength (ploidyOf (a .params))) long, c .before .same-positive2 .ensures, c .before .before .before .same-positive .ensures, lengths .before .row-length .ensures .0)
 
 pub is-for-spec : {M : Type 1} → statement M
 is-for-spec =

@@ -11,17 +11,17 @@ row-of-requires c κs = search needs
 mul-result : tie.Need-mul-result
 mul-result c =
     let a = c .before .args in
-    let small = row-small (c .row-of .result) (a .row) (c .row-of .ensures .1) (c .before .pre .0) in
+    let small = row-small (c .row-of .result) (a .row) (c .row-of .ensures .1) (c .before .pre .1) in
     record { fits = omega (arith, small) }
 
 add-result : tie.Need-add-result
 add-result c =
     let a = c .before .args in
-    let small = row-small (c .row-of .result) (a .row) (c .row-of .ensures .1) (c .before .pre .0) in
+    let small = row-small (c .row-of .result) (a .row) (c .row-of .ensures .1) (c .before .pre .1) in
     record { fits = omega (arith, small) }
 
 returns : tie.Need-returns
-returns c = (rw (c .row-of .ensures .0), in-row _ _ _ (c .row-of .ensures .1) (c .before .pre .1))
+returns c = (rw (c .row-of .ensures .0), in-row _ _ _ (c .row-of .ensures .1) (c .before .pre .2))
 
 pub place-of-spec : {M : Type 1} → statement M
 place-of-spec = tie.close (tie.spec row-of-requires mul-result add-result returns)

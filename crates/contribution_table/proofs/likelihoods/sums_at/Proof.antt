@@ -8,7 +8,7 @@ use Rattle.contribution_table.proofs.likelihoods.sums_at.Tie as tie
 sums-from-requires : tie.Need-sums-from-requires
 sums-from-requires c κs =
     let start = c .before .before .before in
-    (omega (arith, start .pre .0, c .if1 .taken), start .pre .1)
+    (omega (arith, start .pre .0, c .if1 .taken), start .pre .1, start .pre .2)
 
 returns : tie.Need-returns
 returns c =
@@ -17,7 +17,7 @@ returns c =
     rw e (c .sums-from .ensures)
 
 returns-2 : tie.Need-returns-2
-returns-2 c = c .before .before .before .pre .2 (omega (arith, c .if1 .left))
+returns-2 c = c .before .before .before .pre .3 (omega (arith, c .if1 .left))
 
 pub sums-at-spec : {M : Type 1} → statement M
 sums-at-spec = tie.close (tie.spec sums-from-requires returns returns-2)

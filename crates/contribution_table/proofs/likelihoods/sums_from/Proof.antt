@@ -35,7 +35,7 @@ with-word-requires : tie.Need-with-word-requires Inv-loop μ-loop
 with-word-requires c κs =
     let start = c .before .before .before .before .before .before .before in
     let e = c .before .before .before .before .row-length .ensures in
-    (omega arith, e .0, e .1, rw (e .0) (start .pre .0), start .pre .1)
+    (omega arith, e .0, e .1, rw (e .0) (start .pre .0), start .pre .1, start .pre .2)
 
 add-k : tie.Need-add-k Inv-loop μ-loop
 add-k c = search needs

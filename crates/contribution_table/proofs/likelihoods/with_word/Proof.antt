@@ -6,6 +6,7 @@ use native.Mathlib.Nat.{add-assoc}
 use Rattle.contribution_table.specs.Table.{takenAt}
 use Rattle.genotype_likelihoods.specs.Likelihoods.{counted}
 use Rattle.genotype_likelihoods.specs.Observation.{effectiveQual, qualOf, skipped}
+use Rattle.genotype_likelihoods.specs.Skipped.{counted-has-quality}
 use Rattle.contribution_table.proofs.likelihoods.with_word.Statement.{statement}
 use Rattle.contribution_table.proofs.likelihoods.with_word.Tie as tie
 
@@ -25,7 +26,14 @@ returns c =
     simp (← at .before .before .from-word .ensures, ← at .before .effective-qual .ensures, sym (at .skip-observation .ensures) ∙ c .if1 .taken)
 
 place-of-requires : tie.Need-place-of-requires
-place-of-requires c κs = search needs
+place-of-requires c κs =
+    let at = c .before in
+    let a = at .before .before .before .before .args in
+    let pre = at .before .before .before .before .pre in
+    let o = at .before .before .from-word .ensures in
+    let q : at .before .effective-qual .result ≡ qualOf (a .params) (a .w) = at .before .effective-qual .ensures ∙ ap (effectiveQual (a .params)) o in
+    let left : skipped (a .params) (a .w) ≡ false = simp (← o, ← at .before .effective-qual .ensures) (sym (at .skip-observation .ensures) ∙ c .if1 .left) in
+    (rw q (counted-has-quality (a .params) (a .w) (pre .5) left), pre .2, pre .3)
 
 add-t11 : tie.Need-add-t11
 add-t11 c = search needs

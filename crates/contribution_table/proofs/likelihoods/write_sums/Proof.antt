@@ -30,7 +30,7 @@ sums-at-requires : tie.Need-sums-at-requires Inv-loop μ-loop
 sums-at-requires c κs =
     let at = c .before in
     let start = at .before .before .before .before .before in
-    (omega (arith, start .pre .0), start .pre .1, at .loop .inv .3)
+    (omega (arith, start .pre .0), start .pre .1, start .pre .2, at .loop .inv .3)
 
 sum-in-requires : tie.Need-sum-in-requires Inv-loop μ-loop
 sum-in-requires c κs = search needs

@@ -1,13 +1,8 @@
 -- `qual_to_prob_log10` meets its contract.
-use borrow.Author.Tests.{eq-eqb, ne-eqb}
 use Rattle.genotype_likelihoods.specs.Contribution.{qualToProbLog10}
 use borrow.Author.Needs.{needs}
 use Rattle.genotype_likelihoods.proofs.contribution.qual_to_prob_log10.Statement.{statement}
 use Rattle.genotype_likelihoods.proofs.contribution.qual_to_prob_log10.Tie as tie
-
-returns : tie.Need-returns
-unfolding qualToProbLog10
-returns c = simp (eq-eqb _ _ (c .if1 .taken))
 
 error-prob-requires : tie.Need-error-prob-requires
 error-prob-requires c κs = search needs
@@ -15,9 +10,9 @@ error-prob-requires c κs = search needs
 log10-requires : tie.Need-log10-requires
 log10-requires c κs = search needs
 
-returns-2 : tie.Need-returns-2
+returns : tie.Need-returns
 unfolding qualToProbLog10
-returns-2 c = simp (ne-eqb _ _ (c .before .before .if1 .left), c .log10 .ensures, c .before .error-prob .ensures)
+returns c = simp (c .log10 .ensures, c .before .error-prob .ensures)
 
 pub qual-to-prob-log10-spec : {M : Type 1} → statement M
-qual-to-prob-log10-spec = tie.close (tie.spec returns error-prob-requires log10-requires returns-2)
+qual-to-prob-log10-spec = tie.close (tie.spec error-prob-requires log10-requires returns)
