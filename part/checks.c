@@ -1,11 +1,11 @@
 /* Calls of the part that a maker may get wrong, and what they answer: tables that are stale, unfilled, short or long, kernels without room, NULL with a length
- * of 0, memory that holds NaNs, peaks of every content. part/examples.sh runs it. Prints each answer that is not the one that part/region_picker.h promises, and then how many are. */
+ * of 0, memory that holds NaNs, peaks of every content, bases without a quality. part/examples.sh runs it. Prints each answer that is not the one that part/region_picker.h promises, and then how many are. */
 #include "region_picker.h"
 #include <stdio.h>
 #include <string.h>
 
 #define KERNEL 101
-#define LONGEST 53251 /* the table of ploidy 100 */
+#define LONGEST 53043 /* the table of ploidy 100 */
 
 static int right, wrong;
 
@@ -47,7 +47,7 @@ static void tables(void) {
     const size_t n2 = region_picker_table_length(2), m2 = region_picker_priors_length(2), n4 = region_picker_table_length(4), m4 = region_picker_priors_length(4);
     const score plain = scored(NULL, 0, NULL, 0, 2, 0.001, 0.01, 1.0);
     check("the locus is active", plain.answer == 0 && plain.activity[0] > 0.9);
-    check("the lengths of ploidy 2", n2 == 2051 && m2 == 6);
+    check("the lengths of ploidy 2", n2 == 2043 && m2 == 6);
     check("the longest table", region_picker_table_length(100) == LONGEST && region_picker_priors_length(100) == 104);
     check("zeros are not read", same(plain, scored(table, n2, priors, m2, 2, 0.001, 0.01, 1.0)));
     check("filling is granted", fill(n2, m2, 2, 0.001, 0.01, 1.0) == 0);
@@ -154,11 +154,60 @@ static void peaks(void) {
     }
 }
 
+/* an observation word */
+static uint32_t observation(uint32_t quality, bool deletion, bool alternate, bool clipped, uint32_t clips) {
+    return 1u << 30 | quality << 22 | (uint32_t)deletion << 21 | (uint32_t)alternate << 20 | (uint32_t)clipped << 19 | clips;
+}
+
+/* the score of words, by the tables or without, at a minimum, with the flow model or without */
+static score scored_words(const uint32_t *words, size_t n, bool by_tables, uint8_t minimum, bool flow) {
+    score s;
+    memset(&s, 0, sizeof s);
+    s.answer = region_picker_score(1, words, n, table, by_tables ? region_picker_table_length(2) : 0, priors, by_tables ? region_picker_priors_length(2) : 0, minimum, 2,
+                                   0.001, 0.01, 30, 1.0, flow, s.activity, s.evidence);
+    return s;
+}
+
+/* Quality 255 is none: such a base counts nowhere, and a deletion has the deletion quality. */
+static void blanks(void) {
+    enum { MOST = 16385 };
+    static const uint8_t minima[4] = {1, 10, 30, 254};
+    static uint32_t many[MOST];
+    const uint32_t blank = observation(255, false, true, true, 40), reference = observation(255, false, false, false, 0);
+    const uint32_t near = observation(254, false, true, true, 7), deletion = observation(255, true, true, false, 0), other = observation(9, true, true, false, 0);
+    const uint32_t one[2] = {blank, reference}, mixed[5] = {blank, near, reference, near, blank}, without[2] = {near, near};
+    const uint32_t deletions[3] = {blank, deletion, deletion}, others[2] = {other, other};
+    score nothing;
+    size_t i;
+    memset(&nothing, 0, sizeof nothing);
+    for (i = 0; i < MOST; i++) many[i] = i % 2 ? blank : reference;
+    check("tables for bases without a quality", fill(LONGEST, 104, 2, 0.001, 0.01, 1.0) == 0);
+    for (i = 0; i < 16; i++) {
+        const bool by_tables = i & 1, flow = i & 2;
+        const uint8_t minimum = minima[i >> 2];
+        check("two of them score nothing", same(nothing, scored_words(one, 2, by_tables, minimum, flow)));
+        check("nor do as many as a pile has", same(nothing, scored_words(many, MOST - 1, by_tables, minimum, flow)));
+        check("one more is refused 4", scored_words(many, MOST, by_tables, minimum, flow).answer == 4);
+        check("among others they settle nothing", same(scored_words(without, 2, by_tables, minimum, flow), scored_words(mixed, 5, by_tables, minimum, flow)));
+        check("and these are active and clipped", scored_words(mixed, 5, by_tables, minimum, flow).activity[0] > 0.9 && scored_words(mixed, 5, by_tables, minimum, flow).evidence[1] == 7);
+        check("a deletion of 255 is any deletion", same(scored_words(others, 2, by_tables, minimum, flow), scored_words(deletions, 3, by_tables, minimum, flow)));
+        check("which counts but under the flow model below the minimum", (scored_words(deletions, 3, by_tables, minimum, flow).activity[0] > 0.9) == !(flow && minimum > 30));
+    }
+    for (i = 0; i < 6; i++) {
+        const uint32_t cigar[3] = {2 << 4 | 4, 2 << 4, 2 << 4 | 4};
+        uint8_t qualities[6] = {40, 29, 40, 40, 254, 30};
+        uint64_t clips = 0;
+        qualities[i] = 255;
+        check("a clipped base of 255 does not count", region_picker_count_clips(cigar, 3, qualities, 6, &clips) == 0 && clips == (i == 2 || i == 3 ? 4 : 3));
+    }
+}
+
 int main(void) {
     tables();
     kernels();
     payloads();
     peaks();
+    blanks();
     printf("%d right, %d wrong\n", right, wrong);
     return wrong != 0;
 }

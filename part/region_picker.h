@@ -82,7 +82,7 @@ uint32_t region_picker_add(uint32_t profile[REGION_PICKER_PROFILE], double activ
 uint32_t region_picker_pop(uint32_t profile[REGION_PICKER_PROFILE], double active_prob_threshold, uint32_t assembly_region_extension, uint32_t min_region_size,
                            uint32_t max_region_size, bool forced, double *cells, size_t cells_length, uint32_t region[REGION_PICKER_REGION], double *peak);
 
-/* How many doubles the table of a ploidy has: 512 * (ploidy / 4 * 4 + 4) + 3, so 2,051 for ploidy 1 to 3. */
+/* How many doubles the table of a ploidy has: 510 * (ploidy / 4 * 4 + 4) + 3, so 2,043 for ploidy 1 to 3. */
 size_t region_picker_table_length(uint8_t sample_ploidy);
 
 /* How many doubles the list of priors of a ploidy has: ploidy + 4. */
@@ -95,7 +95,8 @@ uint32_t region_picker_fill_tables(double *table, size_t table_length, double *p
                                    uint8_t sample_ploidy, double snp_heterozygosity, double heterozygosity_standard_deviation,
                                    uint8_t ref_model_deletion_qual, double active_region_alt_multiplier, bool flow_based_reference_model);
 
-/* Scores the pile of a position: observation words, as README.md has them. Settings, with the usual choice: min_base_quality_score 1 to 254 (10), sample_ploidy 1
+/* Scores the pile of a position: observation words, as README.md has them. A base of quality 255, SAM's byte for none, is skipped like one below the minimum; a
+ * deletion has the deletion quality, whatever its own. Settings, with the usual choice: min_base_quality_score 1 to 254 (10), sample_ploidy 1
  * to 100 (2), snp_heterozygosity 0.000001 to 0.5 (0.001), heterozygosity_standard_deviation 0.0001 to 1 (0.01), ref_model_deletion_qual 1 to 254 (30),
  * active_region_alt_multiplier 1/1024 to 1,024 (1), flow_based_reference_model (false). `table` and `priors` are what region_picker_fill_tables filled, with
  * just the lengths that the two functions above answer. Each carries the settings that it depends on; one that was filled for others, is of another length, or
@@ -106,7 +107,8 @@ uint32_t region_picker_score(uint32_t position, const uint32_t *pile, size_t pil
                              double heterozygosity_standard_deviation, uint8_t ref_model_deletion_qual, double active_region_alt_multiplier,
                              bool flow_based_reference_model, double activity[2], uint32_t evidence[2]);
 
-/* Counts the soft-clipped bases of a quality above 28 along a read: CIGAR words as BAM stores them, and a quality for each base. Refuses 3. */
+/* Counts the soft-clipped bases of a quality above 28 along a read: CIGAR words as BAM stores them, and a quality for each base; 255, SAM's byte for none, is not
+ * above 28. Refuses 3. */
 uint32_t region_picker_count_clips(const uint32_t *cigar, size_t cigar_length, const uint8_t *qualities, size_t qualities_length, uint64_t *count);
 
 #ifdef __cplusplus

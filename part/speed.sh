@@ -1,6 +1,6 @@
 #!/usr/bin/env bash
 # Times the original and the part in one run, and prints the table of docs/SPEED.md. With `count`, counts the instructions of two rows by callgrind instead. With
-# `against LIBRARY`, another build of the part (libregion_picker.a), times the pops of both in one process, in turn.
+# `against LIBRARY`, another build of the part (libregion_picker.a), times the pops and the scores of both in one process, in turn.
 set -e
 case "$1,$#" in
 ,0 | count,1) ;;
@@ -17,8 +17,8 @@ if [ "$1" = against ]; then
     # the other build's functions get `before_` in front of their names
     nm --defined-only --extern-only "$library" | awk 'NF == 3 { print $3, "before_" $3 }' > target/before.names
     objcopy --redefine-syms=target/before.names "$library" target/before.a
-    gcc -std=c99 -D_POSIX_C_SOURCE=200809L -O2 -Wall -Wextra -pedantic -o target/pops part/speed/pops.c target/staticlib/libregion_picker.a target/before.a
-    exec target/pops
+    gcc -std=c99 -D_POSIX_C_SOURCE=200809L -O2 -Wall -Wextra -pedantic -o target/against part/speed/against.c target/staticlib/libregion_picker.a target/before.a
+    exec target/against
 fi
 rt check region > target/region.log 2>&1 || { cat target/region.log; exit 1; }
 cargo build --quiet --release --offline --manifest-path part/speed/Cargo.toml

@@ -10,7 +10,7 @@
 #define CELLS 4096
 #define KERNEL 1001
 #define DEPTH 16385 /* one word more than the deepest pile */
-#define TABLE 2051
+#define TABLE 2043
 #define PRIORS 6
 #define SCORING 10, 2, 0.001, 0.01, 30, 1.0, false
 
