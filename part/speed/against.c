@@ -134,7 +134,9 @@ int main(void) {
     scored("quiet", 30, 10, 100, 0, 0);
     scored("active", 1000, 10, 2, 0, 0);
     scored("a tenth below the minimum", 30, 2, 100, 10, 9);
+    scored("half below the minimum", 1000, 2, 2, 2, 9);
     scored("a tenth of quality 255", 30, 2, 100, 10, 255);
+    scored("half of quality 255", 1000, 2, 2, 2, 255);
     puts("");
     puts("| Cells | Pop before | Pop after | After / before |\n|---|---|---|---|");
     pattern("quiet", quiet, 400);
