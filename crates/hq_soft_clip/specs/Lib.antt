@@ -1,2 +1,5 @@
 pub mod SoftClips
+pub mod Operations
+pub mod Refused
+pub mod Same
 pub mod Missing

@@ -8,7 +8,10 @@ use lib.ListN.{take, drop}
 use Rattle.lists.specs.Loops.{foldl}
 use Rattle.lists.specs.Folds.{foldl-same}
 use Rattle.genome.specs.Ranges.{missingQuality}
-use Rattle.hq_soft_clip.specs.SoftClips.{span, isHigh, withBase, countHigh, clipped, walked, start, clipCount}
+use Rattle.genome.specs.Refusals.{Outcome, refused, answered}
+use Rattle.hq_soft_clip.specs.declared.Walk.{Walk}
+use Rattle.hq_soft_clip.specs.Operations.{by-arms}
+use Rattle.hq_soft_clip.specs.SoftClips.{operation, span, isHigh, withBase, countHigh, highOf, after, start, countOf, clipCount}
 
 -- a quality of 0 in the place of a missing one
 abbrev pub zeroed : ℕ → ℕ
@@ -30,10 +33,10 @@ unfolding foldl
 count-zeroed n [] = refl
 count-zeroed n (q ∷ qs) = ap (λ (b : Bool). foldl withBase (cond b (n + 1) n) (map zeroed qs)) (high-zeroed q) ∙ count-zeroed (withBase n q) qs
 
--- of the clip of n bases from base `at` on
-clipped-zeroed : (qs : List ℕ) (at n : ℕ) → clipped (map zeroed qs) at n ≡ clipped qs at n
+-- of n bases from base `at` on
+high-of-zeroed : (qs : List ℕ) (at n : ℕ) → highOf (map zeroed qs) at n ≡ highOf qs at n
 unfolding countHigh
-clipped-zeroed qs at n = ap (foldl withBase 0) (part qs at n) ∙ count-zeroed 0 (take n (drop at qs))
+high-of-zeroed qs at n = ap (foldl withBase 0) (part qs at n) ∙ count-zeroed 0 (take n (drop at qs))
   where
     part : (qs : List ℕ) (at n : ℕ) → take n (drop at (map zeroed qs)) ≡ map zeroed (take n (drop at qs))
     part [] zero zero = refl
@@ -44,8 +47,12 @@ clipped-zeroed qs at n = ap (foldl withBase 0) (part qs at n) ∙ count-zeroed 0
     part (q ∷ qs) zero (suc n) = ap (λ (l : List ℕ). zeroed q ∷ l) (part qs zero n)
     part (q ∷ qs) (suc at) n = part qs at n
 
+after-zeroed : (qs : List ℕ) (o : Outcome Walk) (w : ℕ) → after (map zeroed qs) o w ≡ after qs o w
+after-zeroed qs (refused r) w = refl
+after-zeroed qs (answered s) w =
+    by-arms (λ x y. x ≡ y) (operation w) (span w) (map zeroed qs) qs s s refl refl (rw (high-of-zeroed qs (s .at) (span w))) refl
+
 -- for every list of CIGAR words and of qualities, refused or not
 pub clips-zeroed : (cigar qualities : List ℕ) → clipCount cigar (map zeroed qualities) ≡ clipCount cigar qualities
-unfolding clipCount walked
-clips-zeroed cigar qs =
-    rw (foldl-same (walked (map zeroed qs)) (walked qs) start cigar (λ s w. rw (clipped-zeroed qs (s .at) (span w))))
+unfolding clipCount
+clips-zeroed cigar qs = ap countOf (foldl-same (after (map zeroed qs)) (after qs) (answered start) cigar (after-zeroed qs))

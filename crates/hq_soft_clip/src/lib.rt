@@ -3,12 +3,10 @@
 use genome::MISSING_QUALITY;
 use genome::Refusal;
 ghost use mathlib.Core.Path.{_≡_};
-ghost use mathlib.Core.Bool.{false, cond};
-ghost use Prim.Native.Nat.{_+_, _-_, _≤_, _<_, min};
+ghost use Prim.Native.Nat.{_-_, _≤_, _<_, min};
 ghost use lib.ListN.{length};
-ghost use Rattle.lists.specs.Loops.{foldl};
-ghost use Rattle.hq_soft_clip.specs.SoftClips.{span, advances, orUnknown, withBase, countHigh, walked, start, capped};
-ghost use Rattle.hq_soft_clip.specs.SoftClips.{clipCount, clipCountOf};
+ghost use Rattle.hq_soft_clip.specs.SoftClips.{withBase, countHigh, passed, clipped, walked, capped, cappedOutcome};
+ghost use Rattle.hq_soft_clip.specs.SoftClips.{clipCount, clipCountOf, walkedOf};
 
 // What the count answers.
 pub enum SoftClips {
@@ -23,8 +21,11 @@ pub struct Walk {
     pub count: u64,
 }
 
-// The SAM operation of a soft clip.
-const SOFT_CLIP: u32 = 4;
+// What one word does to a walk.
+pub enum Walked {
+    To(Walk),
+    Refused(Refusal),
+}
 
 // A soft-clipped base counts where its quality is strictly above this.
 const RCM_HQ_SOFT_CLIP_QUAL_THRESHOLD: u8 = 28;
@@ -35,77 +36,72 @@ const RCM_HQ_SOFT_CLIP_QUAL_THRESHOLD: u8 = 28;
 pub fn count_high_quality_soft_clip_bases_rcm(cigar: &[u32], qualities: &[u8]) -> SoftClips
     ensures { λ r. ⌜ clipCountOf r ≡ clipCount (now (cigar .entry)) (now (qualities .entry)) ⌝ }
 {
-    if has_unknown_operation(cigar) {
-        return SoftClips::Refused(Refusal::Word);
-    }
-    let w = walk_all(cigar, qualities);
-    SoftClips::Count(w.count)
-}
-
-// Whether any operation is from 9 on, which SAM does not have.
-fn has_unknown_operation(cigar: &[u32]) -> bool
-    ensures { λ r. ⌜ r ≡ foldl orUnknown false (now (cigar .entry)) ⌝ }
-{
-    let mut unknown = false;
-    let mut i = 0;
-    while i < cigar.len() {
-        unknown = unknown | (8 < cigar[i] % 16);
-        i += 1;
-    }
-    unknown
-}
-
-// The walk over all words.
-fn walk_all(cigar: &[u32], qualities: &[u8]) -> Walk
-    ensures { λ r. ⌜ r .count ≡ foldl (walked (now (qualities .entry))) start (now (cigar .entry)) .count ⌝ }
-{
     let mut w = Walk { at: 0, count: 0 };
     let mut i = 0;
     while i < cigar.len() {
-        w = walk_word(w, cigar[i], qualities);
+        let walked = walk_word(w, cigar[i], qualities);
+        match walked {
+            Walked::To(next) => w = next,
+            Walked::Refused(why) => return SoftClips::Refused(why),
+        }
         i += 1;
     }
-    w
+    SoftClips::Count(w.count)
 }
 
-// The walk with one word more.
-fn walk_word(w: Walk, word: u32, qualities: &[u8]) -> Walk
-    requires { ⌜ (w .count ≤ w .at) × (w .at ≤ length (now qualities)) ⌝ }
-    ensures { λ r. ⌜ (r ≡ capped (length (now (qualities .entry))) (walked (now (qualities .entry)) w word))
-        × (r .count ≤ r .at)
-        × (r .at ≤ length (now (qualities .entry))) ⌝ }
+// One word, by the SAM specification's table of CIGAR operations: an arm for each of its rows, in its order, below the row's letter, its
+// description and whether it consumes the query.
+fn walk_word(here: Walk, word: u32, qualities: &[u8]) -> Walked
+    requires { ⌜ (here .count ≤ here .at) × (here .at ≤ length (now qualities)) ⌝ }
+    ensures { λ r. ⌜ walkedOf r ≡ cappedOutcome (length (now (qualities .entry))) (walked (now (qualities .entry)) here word) ⌝ }
 {
-    let at = w.at;
-    let end = place_after(at, word, qualities.len());
-    if word % 16 == SOFT_CLIP {
-        let clipped = count_high(&qualities[at..end]);
-        return Walk {
-            at: end,
-            count: w.count + clipped,
-        };
+    let operation = word % 16;
+    let past = pass(here, (word / 16) as usize, qualities.len());
+    match operation {
+        // M: alignment match (can be a sequence match or mismatch); consumes query: yes
+        0 => Walked::To(past),
+        // I: insertion to the reference; consumes query: yes
+        1 => Walked::To(past),
+        // D: deletion from the reference; consumes query: no
+        2 => Walked::To(here),
+        // N: skipped region from the reference; consumes query: no
+        3 => Walked::To(here),
+        // S: soft clipping (clipped sequences present in SEQ); consumes query: yes
+        4 => Walked::To(clip(here, past.at, qualities)),
+        // H: hard clipping (clipped sequences NOT present in SEQ); consumes query: no
+        5 => Walked::To(here),
+        // P: padding (silent deletion from padded reference); consumes query: no
+        6 => Walked::To(here),
+        // =: sequence match; consumes query: yes
+        7 => Walked::To(past),
+        // X: sequence mismatch; consumes query: yes
+        8 => Walked::To(past),
+        // 9 to 15: not in the table, refused 3
+        _ => Walked::Refused(Refusal::Word),
     }
+}
+
+// The walk past n bases more, no further than there are qualities.
+fn pass(w: Walk, n: usize, qualities: usize) -> Walk
+    requires { ⌜ w .at ≤ qualities ⌝ }
+    ensures { λ r. ⌜ r ≡ capped qualities (passed n w) ⌝ }
+{
     Walk {
-        at: end,
+        at: w.at + smaller(n, qualities - w.at),
         count: w.count,
     }
 }
 
-// Where the walk stands after a word: M, I, S, = and X advance by the word's length, no further than the n qualities.
-fn place_after(at: usize, word: u32, n: usize) -> usize
-    requires { ⌜ at ≤ n ⌝ }
-    ensures { λ r. ⌜ (r ≡ cond (advances word) (at + min (span word) (n - at)) at) × (at ≤ r) × (r ≤ n) ⌝ }
+// The walk past the bases before `end`, which are clipped.
+fn clip(w: Walk, end: usize, qualities: &[u8]) -> Walk
+    requires { ⌜ (w .count ≤ w .at) × (w .at ≤ end) × (end ≤ length (now qualities)) ⌝ }
+    ensures { λ r. ⌜ r ≡ clipped (now (qualities .entry)) (end - w .at) w ⌝ }
 {
-    if is_advancing(word) {
-        return at + smaller((word / 16) as usize, n - at);
+    let at = w.at;
+    Walk {
+        at: end,
+        count: w.count + count_high(&qualities[at..end]),
     }
-    at
-}
-
-fn is_advancing(word: u32) -> bool
-    ensures { λ r. ⌜ r ≡ advances word ⌝ }
-{
-    let op = word % 16;
-    (op == 0) | (op == 1) | (op == SOFT_CLIP) | (op == 7) | (op == 8)
 }
 
 fn smaller(a: usize, b: usize) -> usize

@@ -22,7 +22,7 @@ use Rattle.genotype_likelihoods.specs.Likelihoods.{counted}
 use Rattle.genotype_posterior.specs.Phred.{minF, plOf}
 use Rattle.activity_scoring.specs.Mean.{withWord, meanOf}
 use Rattle.activity_scoring.specs.Score.{evidenceOf}
-use Rattle.hq_soft_clip.specs.SoftClips.{clipCount, countHigh, walked}
+use Rattle.hq_soft_clip.specs.SoftClips.{clipCount, countHigh, byOperation}
 use Rattle.worked_examples.specs.Rows.{Row, same, allRight, rowAt, each-row}
 
 -- n tenths: the double nearest to that
@@ -108,8 +108,13 @@ clipsOf : List ℕ → List ℕ
 unfolding evidenceTold evidenceOf meanOf word
 clipsOf counts = evidenceTold (evidenceOf (meanOf defaults (map (word 30 0 1 1) counts)))
 
+-- two bases of an operation and 1S, over qualities of 40, 40 and 20: the clip has the 20 where the operation consumes the query, and a 40 where it does not
+thenClip : ℕ → List ℕ
+unfolding numbered clipCount
+thenClip op = numbered (clipCount ((2 * 16 + op) ∷ (1 * 16 + 4) ∷ []) (40 ∷ 40 ∷ 20 ∷ []))
+
 pub table : List Row
-unfolding popOf told peakTold peakOf popAnswer tenths hundredths profile superStates kept numbered clipCount word minimum skippedOf clipsOf evidenceTold evidenceOf meanOf plOf
+unfolding popOf told peakTold peakOf popAnswer tenths hundredths profile superStates kept numbered clipCount thenClip word minimum skippedOf clipsOf evidenceTold evidenceOf meanOf plOf
 table =
     record { number = 1; given = popOf (9 ∷ 5 ∷ 2 ∷ 5 ∷ 9 ∷ []) 2 false; wanted = 3 ∷ 1 ∷ 3 ∷ [] }
     ∷ record { number = 2; given = popOf (9 ∷ 2 ∷ 5 ∷ 2 ∷ 9 ∷ []) 2 false; wanted = 3 ∷ 1 ∷ 4 ∷ [] }
@@ -175,11 +180,23 @@ table =
     ∷ record { number = 203; given = foldl (counted defaults) 0 (word 255 0 1 0 0 ∷ word 30 0 1 0 0 ∷ word 255 1 1 0 0 ∷ word 255 0 0 0 0 ∷ []) ∷ []; wanted = 2 ∷ [] }
     ∷ record { number = 203; given = evidenceTold (evidenceOf (meanOf defaults (word 255 0 1 1 40 ∷ word 30 0 1 1 6 ∷ word 255 0 1 1 0 ∷ word 30 0 1 1 8 ∷ []))); wanted = 1 ∷ 7 ∷ [] }
     ∷ record { number = 203; given = numbered (clipCount ((3 * 16 + 4) ∷ (2 * 16 + 0) ∷ (2 * 16 + 4) ∷ []) (255 ∷ 29 ∷ 254 ∷ 40 ∷ 40 ∷ 40 ∷ 255 ∷ [])); wanted = 1 ∷ 3 ∷ [] }
+    -- U4: M I D N S H P = X, and past the table. S counts both of its bases
+    ∷ record { number = 204; given = thenClip 0; wanted = 1 ∷ 0 ∷ [] }
+    ∷ record { number = 204; given = thenClip 1; wanted = 1 ∷ 0 ∷ [] }
+    ∷ record { number = 204; given = thenClip 2; wanted = 1 ∷ 1 ∷ [] }
+    ∷ record { number = 204; given = thenClip 3; wanted = 1 ∷ 1 ∷ [] }
+    ∷ record { number = 204; given = thenClip 4; wanted = 1 ∷ 2 ∷ [] }
+    ∷ record { number = 204; given = thenClip 5; wanted = 1 ∷ 1 ∷ [] }
+    ∷ record { number = 204; given = thenClip 6; wanted = 1 ∷ 1 ∷ [] }
+    ∷ record { number = 204; given = thenClip 7; wanted = 1 ∷ 0 ∷ [] }
+    ∷ record { number = 204; given = thenClip 8; wanted = 1 ∷ 0 ∷ [] }
+    ∷ record { number = 204; given = thenClip 9; wanted = 0 ∷ 3 ∷ [] }
+    ∷ record { number = 204; given = thenClip 15; wanted = 0 ∷ 3 ∷ [] }
     ∷ []
 
 -- the one proof
 pub table-right : allRight table ≡ true
-unfolding table allRight same popOf told peakTold peakOf tenths hundredths profile popAnswer popAnswerBy popVerdict turn kept broken settingsInRange placed qualifies beats replaces better bestCutSite orMost sizeOf popSize regionWith regionOf leads peakIndex along rest superStates numbered clipCount countHigh walked word minimum skippedOf clipsOf evidenceTold effectiveQual lacksQuality skips counted evidenceOf meanOf withWord plOf minF toUnsigned ofInt add sub div ne foldl down firstAt each upTo lt le neg ofBits toBits round
+unfolding table allRight same popOf told peakTold peakOf tenths hundredths profile popAnswer popAnswerBy popVerdict turn kept broken settingsInRange placed qualifies beats replaces better bestCutSite orMost sizeOf popSize regionWith regionOf leads peakIndex along rest superStates numbered clipCount countHigh byOperation thenClip word minimum skippedOf clipsOf evidenceTold effectiveQual lacksQuality skips counted evidenceOf meanOf withWord plOf minF toUnsigned ofInt add sub div ne foldl down firstAt each upTo lt le neg ofBits toBits round
 table-right = refl
 
 -- every row
