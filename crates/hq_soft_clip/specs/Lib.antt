@@ -1,5 +1,4 @@
 pub mod SoftClips
 pub mod Operations
 pub mod Refused
-pub mod Same
 pub mod Missing

@@ -16,7 +16,7 @@ use Rattle.hq_soft_clip.specs.Operations.{by-arms}
 use Rattle.hq_soft_clip.specs.SoftClips.{operation, span, byOperation, after, start, countOf, clipCount}
 
 -- ---- an operation that the table does not have, wherever it stands
-pub past-table : (op n : ℕ) (qs : List ℕ) (s : Walk) → 8 < op → byOperation op qs n s ≡ refused wordRefusal
+past-table : (op n : ℕ) (qs : List ℕ) (s : Walk) → 8 < op → byOperation op qs n s ≡ refused wordRefusal
 unfolding byOperation
 past-table op n qs s h =
     rw (ne 0 (omega arith), ne 1 (omega arith), ne 2 (omega arith), ne 3 (omega arith), ne 4 (omega arith), ne 5 (omega arith), ne 6 (omega arith), ne 7 (omega arith), ne 8 h)
