@@ -6,6 +6,9 @@ use rust_htslib::bam::record::Cigar;
 use rust_htslib::bam::Record;
 use std::io::Write;
 
+/// The longest that a CIGAR word can say.
+const LONGEST: u32 = (1 << 28) - 1;
+
 /// The SAM operation of a CIGAR word, or none.
 fn operation(word: u32) -> Option<Cigar> {
     let n = word >> 4;
@@ -81,5 +84,40 @@ pub fn clip_list(seed: u64, count: u64, out: &mut impl Write) {
                 clip_answer(&[20 << 4 | 4], &qual[..at.min(15)], out);
             }
         }
+    }
+    // document 02, U4: each operation first, last, both and between others, with no length, with some and with the longest
+    let others: [&[u32]; 3] = [&[2 << 4 | 4, 3 << 4, 1 << 4 | 1, 2 << 4 | 4], &[1 << 4, 1 << 4 | 4, 1 << 4 | 7, 1 << 4 | 4, 1 << 4 | 8], &[4 << 4 | 4]];
+    let quals: [&[u8]; 2] = [&[40, 40, 20, 40, 40, 20, 20, 40, 28, 29], &[20, 29, 255, 40]];
+    for op in 0..16 {
+        for n in [0, 2, LONGEST] {
+            let word = n << 4 | op;
+            for among in others {
+                for qual in quals {
+                    clip_answer(&[&[word], among].concat(), qual, out);
+                    clip_answer(&[among, &[word]].concat(), qual, out);
+                    clip_answer(&[&[word], among, &[word]].concat(), qual, out);
+                    clip_answer(&[&among[..1], &[word], among].concat(), qual, out);
+                }
+            }
+        }
+    }
+    // each operation behind each, and a clip behind both
+    for first in 0..16 {
+        for second in 0..16 {
+            clip_answer(&[2 << 4 | first, 1 << 4 | second, 1 << 4 | 4], &[40, 40, 20, 40], out);
+            clip_answer(&[1 << 4 | first, 2 << 4 | second, 2 << 4 | 4], &[29, 20, 40, 40, 20, 20], out);
+        }
+    }
+    // any words, of lengths that are none, short or the longest
+    for _ in 0..count / 20 {
+        let cigar: Vec<u32> = (0..1 + r.below(12))
+            .map(|_| {
+                let op = if r.chance(80) { 9 + r.below(7) } else { r.below(9) } as u32;
+                let n = if r.chance(20) { LONGEST } else { r.below(5) as u32 };
+                n << 4 | op
+            })
+            .collect();
+        let qual: Vec<u8> = (0..r.below(32)).map(|_| r.pick(&[0, 20, 28, 29, 40, 254, 255])).collect();
+        clip_answer(&cigar, &qual, out);
     }
 }
