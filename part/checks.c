@@ -202,12 +202,38 @@ static void blanks(void) {
     }
 }
 
+/* Each operation, in the order of the SAM specification's table, M I D N S H P = X, and those that it does not have, of two bases and of as many as a word can say. */
+static void operations(void) {
+    static const uint8_t qualities[3] = {40, 40, 20};
+    /* what the operation, and then a clip of one base, count: the clip is the base of 20, or none, behind one that consumes the query, and the first base else */
+    static const uint64_t counts[9] = {0, 0, 1, 1, 2, 1, 1, 0, 0};
+    static const uint32_t lengths[2] = {2, 0xfffffff};
+    uint32_t op;
+    int i;
+    for (op = 0; op < 16; op++) {
+        const uint32_t clip = 1 << 4 | 4, none[2] = {op, clip}, refused = op < 9 ? 0 : 3;
+        uint64_t clips = 7;
+        for (i = 0; i < 2; i++) {
+            const uint32_t first[2] = {lengths[i] << 4 | op, clip}, last[2] = {clip, lengths[i] << 4 | op};
+            clips = 7;
+            check("an operation in front", region_picker_count_clips(first, 2, qualities, 3, &clips) == refused && clips == (op < 9 ? counts[op] : 7));
+            clips = 7;
+            check("an operation at the end", region_picker_count_clips(last, 2, qualities, 3, &clips) == refused && clips == (op < 9 ? op == 4 ? 2 : 1 : 7));
+        }
+        clips = 7;
+        check("an operation of no bases", region_picker_count_clips(none, 2, qualities, 3, &clips) == refused && clips == (op < 9 ? 1 : 7));
+        clips = 7;
+        check("an operation and no qualities", region_picker_count_clips(none, 2, NULL, 0, &clips) == refused && clips == (op < 9 ? 0 : 7));
+    }
+}
+
 int main(void) {
     tables();
     kernels();
     payloads();
     peaks();
     blanks();
+    operations();
     printf("%d right, %d wrong\n", right, wrong);
     return wrong != 0;
 }

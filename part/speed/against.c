@@ -1,7 +1,8 @@
-/* Times region_picker_pop and region_picker_score of two builds of the part in one process, in turn: `part/speed.sh against LIBRARY` links this one, and that one with
- * `before_` in front of its names. An older build whose pop takes fewer arguments leaves the last ones alone, as C's calls on x86-64 have it. For each pattern of cells
- * it prints the time of a pop of each build, what it takes to lay the cells out again taken off, and their ratio; for each kind of pile the same of a score. Both must
- * hand out the same loci, and score the same but for piles with quality 255. */
+/* Times region_picker_score, region_picker_count_clips and region_picker_pop of two builds of the part in one process, in turn: `part/speed.sh against LIBRARY` links
+ * this one, and that one with `before_` in front of its names. An older build whose pop takes fewer arguments leaves the last ones alone, as C's calls on x86-64 have
+ * it. For each pattern of cells it prints the time of a pop of each build, what it takes to lay the cells out again taken off, and their ratio; for each kind of pile
+ * the same of a score, for each kind of read of a count. Both must hand out the same loci, count and refuse the same, and score the same but for piles with quality
+ * 255. */
 #include <stdio.h>
 #include <string.h>
 #include <time.h>
@@ -17,6 +18,8 @@ fill before_region_picker_fill_tables;
 typedef uint32_t score(uint32_t, const uint32_t *, size_t, const double *, size_t, const double *, size_t, uint8_t, uint8_t, double, double, uint8_t, double, bool,
                        double *, uint32_t *);
 score before_region_picker_score;
+typedef uint32_t count_clips(const uint32_t *, size_t, const uint8_t *, size_t, uint64_t *);
+count_clips before_region_picker_count_clips;
 
 enum { CELLS = 1500, POPS = 2000, ROUNDS = 60 };
 
@@ -123,7 +126,82 @@ static void scored(const char *name, uint32_t depth, uint8_t ploidy, uint32_t al
     printf("| %s, %u words, ploidy %u | %.0f ns | %.0f ns | %.2f |\n", name, depth, ploidy, best[0], best[1], best[1] / best[0]);
 }
 
+enum { READS = 64, WORDS = 1000, BASES = 10000 };
+
+/* the CIGAR words of each read, how many they are, and of how many qualities each is counted */
+static uint32_t cigars[READS][WORDS];
+static size_t words[READS], bases;
+static uint8_t qualities[BASES];
+
+/* the SAM specification's letters, in the order of the operations */
+static const char LETTERS[] = "MIDNSHP=X";
+
+static void read_word(uint32_t read, uint32_t length, char letter) {
+    cigars[read][words[read]++] = length << 4 | (uint32_t)(strchr(LETTERS, letter) - LETTERS);
+}
+
+/* short reads as aligners make them */
+static void aligned(uint32_t read) {
+    switch ((int)(noise(read) * 6)) {
+    case 0: read_word(read, 12, 'S'); read_word(read, 138, 'M'); break;
+    case 1: read_word(read, 70, 'M'); read_word(read, 2, 'D'); read_word(read, 80, 'M'); break;
+    case 2: read_word(read, 70, 'M'); read_word(read, 2, 'I'); read_word(read, 78, 'M'); break;
+    case 3: read_word(read, 5, 'S'); read_word(read, 60, 'M'); read_word(read, 1000, 'N'); read_word(read, 80, 'M'); read_word(read, 5, 'S'); break;
+    case 4: read_word(read, 3, 'H'); read_word(read, 150, 'M'); break;
+    default: read_word(read, 150, 'M');
+    }
+}
+
+/* n words of any operation, of up to 9 bases each */
+static void any(uint32_t read, uint32_t n) {
+    for (uint32_t i = 0; i < n; i++) read_word(read, (uint32_t)(noise(read * WORDS + i) * 10), LETTERS[(int)(noise(read * WORDS + i + 77777) * 9)]);
+}
+
+static void any_few(uint32_t read) { any(read, 20); }
+static void any_many(uint32_t read) { any(read, WORDS); }
+static void alike_and_not(uint32_t read) {
+    for (uint32_t i = 0; i < WORDS / 2; i++) {
+        read_word(read, 7, '=');
+        read_word(read, 1, i % 10 ? 'X' : 'I');
+    }
+}
+static void matched(uint32_t read) { read_word(read, 150, 'M'); }
+static void clipped(uint32_t read) { read_word(read, 150, 'S'); }
+static void long_clipped(uint32_t read) { read_word(read, BASES, 'S'); }
+static void claims_most(uint32_t read) { read_word(read, (1u << 28) - 1, 'S'); }
+static void refused_first(uint32_t read) { any(read, WORDS); cigars[read][0] = 9; }
+static void refused_last(uint32_t read) { any(read, WORDS); cigars[read][WORDS - 1] = 9; }
+
+/* each read once, by one side: the time of one, and the sum of the counts and refusals */
+static double counts(count_clips *f, uint64_t *sum) {
+    double start = seconds();
+    *sum = 0;
+    for (int i = 0; i < READS; i++) {
+        uint64_t n = 0;
+        *sum += 1000003 * f(cigars[i], words[i], qualities, bases, &n);
+        *sum += n;
+    }
+    return (seconds() - start) / READS * 1e9;
+}
+
+static void counted(const char *name, void (*make)(uint32_t), uint32_t length) {
+    count_clips *sides[2] = {before_region_picker_count_clips, region_picker_count_clips};
+    double best[2] = {1e30, 1e30}, t;
+    uint64_t sum[2];
+    bases = length;
+    for (uint32_t i = 0; i < READS; i++) {
+        words[i] = 0;
+        make(i);
+    }
+    for (int k = 0; k < 20 * ROUNDS; k++)
+        for (int i = 0; i < 2; i++)
+            if ((t = counts(sides[i], &sum[i])) < best[i]) best[i] = t;
+    if (sum[0] != sum[1]) printf("%s: %llu and %llu\n", name, (unsigned long long)sum[0], (unsigned long long)sum[1]);
+    printf("| %s, %u qualities | %.1f ns | %.1f ns | %.2f |\n", name, length, best[0], best[1], best[1] / best[0]);
+}
+
 int main(void) {
+    for (uint32_t i = 0; i < BASES; i++) qualities[i] = (uint8_t)(noise(i) * 42);
     sides[0].score = before_region_picker_score;
     sides[1].score = region_picker_score;
     puts("| Piles | Score before | Score after | After / before |\n|---|---|---|---|");
@@ -137,6 +215,18 @@ int main(void) {
     scored("half below the minimum", 1000, 2, 2, 2, 9);
     scored("a tenth of quality 255", 30, 2, 100, 10, 255);
     scored("half of quality 255", 1000, 2, 2, 2, 255);
+    puts("");
+    puts("| Reads | Count before | Count after | After / before |\n|---|---|---|---|");
+    counted("150M", matched, 150);
+    counted("150S", clipped, 150);
+    counted("as aligners make them", aligned, 150);
+    counted("20 words of any operation", any_few, 150);
+    counted("1000 words of any operation", any_many, BASES);
+    counted("1000 words, = and X in turn, one X in ten an I", alike_and_not, BASES);
+    counted("10000S", long_clipped, BASES);
+    counted("a clip that claims 268435455", claims_most, 150);
+    counted("1000 words, the first unknown", refused_first, BASES);
+    counted("1000 words, the last unknown", refused_last, BASES);
     puts("");
     puts("| Cells | Pop before | Pop after | After / before |\n|---|---|---|---|");
     pattern("quiet", quiet, 400);
