@@ -1,5 +1,5 @@
 /* Calls of the part that a maker may get wrong, and what they answer: tables that are stale, unfilled, short or long, kernels without room, NULL with a length
- * of 0, memory that holds NaNs, peaks of every content, bases without a quality. part/examples.sh runs it. Prints each answer that is not the one that part/region_picker.h promises, and then how many are. */
+ * of 0, memory that holds NaNs, peaks of every content, bases without a quality, each CIGAR operation. part/examples.sh runs it. Prints each answer that is not the one that part/region_picker.h promises, and then how many are. */
 #include "region_picker.h"
 #include <stdio.h>
 #include <string.h>
