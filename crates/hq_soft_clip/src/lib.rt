@@ -110,7 +110,7 @@ fn smaller(a: usize, b: usize) -> usize
     if a < b { a } else { b }
 }
 
-// How many of the qualities are strictly above 28.
+// How many of the qualities are strictly above 28 and not missing.
 fn count_high(qualities: &[u8]) -> u64
     ensures { λ r. ⌜ r ≡ countHigh (now (qualities .entry)) ⌝ }
 {
