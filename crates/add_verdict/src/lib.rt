@@ -86,12 +86,12 @@ fn is_not_next(p: BandPassActivityProfile, s: ActivityProfileState) -> bool
 fn lacks_cells(p: BandPassActivityProfile, s: ActivityProfileState, cells: usize) -> bool
     ensures { λ r. ⌜ r ≡ ltb cells (needed p s) ⌝ }
 {
-    let n = cells_needed(p, s);
+    let n = cells_after(p, s);
     (cells as u64) < n
 }
 
 // The cells in use after the add.
-pub fn cells_needed(p: BandPassActivityProfile, s: ActivityProfileState) -> u64
+pub fn cells_after(p: BandPassActivityProfile, s: ActivityProfileState) -> u64
     ensures { λ r. ⌜ r ≡ needed p s ⌝ }
 {
     let first = first_locus(p, s);

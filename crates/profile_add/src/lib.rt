@@ -5,7 +5,7 @@ use activity_profile::AddVerdict;
 use activity_profile::Added;
 use activity_profile::BandPassActivityProfile;
 use add_verdict::add_verdict;
-use add_verdict::cells_needed;
+use add_verdict::cells_after;
 use add_verdict::first_locus;
 use add_verdict::highest_of;
 use numbers::greater;
@@ -88,7 +88,7 @@ fn added_profile(p: BandPassActivityProfile, s: ActivityProfileState) -> BandPas
 {
     let q = s.pos;
     let first = first_locus(p, s);
-    let count = cells_needed(p, s);
+    let count = cells_after(p, s);
     let mut next = p;
     next.region_start = first;
     next.last_input_pos = q.0;

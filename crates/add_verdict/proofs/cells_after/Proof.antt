@@ -1,8 +1,8 @@
--- `cells_needed` meets its contract: the larger of the count and the reach.
+-- `cells_after` meets its contract: the larger of the count and the reach.
 use borrow.Author.Needs.{needs}
 use Rattle.activity_profile.specs.Add.{needed}
-use Rattle.add_verdict.proofs.cells_needed.Statement.{statement}
-use Rattle.add_verdict.proofs.cells_needed.Tie as tie
+use Rattle.add_verdict.proofs.cells_after.Statement.{statement}
+use Rattle.add_verdict.proofs.cells_after.Tie as tie
 
 first-locus-requires : tie.Need-first-locus-requires
 first-locus-requires c κs = search needs
@@ -31,8 +31,8 @@ returns c =
     let at = c .before .before in
     simp (c .greater .ensures, at .monus .ensures, at .before .highest-of .ensures .0, at .before .before .first-locus .ensures)
 
-pub cells-needed-spec : {M : Type 1} → statement M
-cells-needed-spec =
+pub cells-after-spec : {M : Type 1} → statement M
+cells-after-spec =
     tie.close
     (tie.spec
     first-locus-requires
