@@ -29,7 +29,7 @@ use Rattle.activity_profile.proofs.Unbroken.{whole-not, step-whole, run
 -- ---- one forced pop
 
 module _ (extension least most : ℕ) (h : 1 ≤ least) (k : 1 ≤ most) where
-  granted-is : (p : BandPassActivityProfile) (n : ℕ) → Whole p n → popVerdict p n least most ≡ granted
+  pub granted-is : (p : BandPassActivityProfile) (n : ℕ) → Whole p n → popVerdict p n least most ≡ granted
   unfolding popVerdict
   granted-is p n w = rw (whole-not p n w, ne-eqb least 0 (λ q. omega arith), ne-eqb most 0 (λ q. omega arith))
 

@@ -14,3 +14,8 @@ pub mod Adds
 pub mod Windows
 pub mod OnContig
 pub mod Peak
+pub mod Settings
+pub mod Idle
+pub mod Enough
+pub mod PopsEnd
+pub mod OneFewer

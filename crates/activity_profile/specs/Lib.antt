@@ -7,3 +7,5 @@ pub mod Peak
 pub mod Pop
 pub mod Run
 pub mod Window
+pub mod Cells
+pub mod Maker

@@ -53,6 +53,12 @@ pub enum Made {
     Refused(Refusal),
 }
 
+// The cells that a maker must provide, or the first refusal that applies to the numbers given.
+pub enum CellsNeeded {
+    Cells(u32),
+    Refused(Refusal),
+}
+
 // Whether an add is granted, or the first refusal that applies to it.
 pub enum AddVerdict {
     Granted,
