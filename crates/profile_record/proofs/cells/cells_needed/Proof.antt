@@ -1,0 +1,52 @@
+-- `cells_needed` meets its contract: refusal 1, refusal 11, then the smaller of contig length and formula, whose sum is in 64 bits.
+use mathlib.Core.Path.{_≡_, sym, _∙_}
+use mathlib.Core.Bool.{true}
+use borrow.Author.Needs.{needs}
+use borrow.Author.Tests.{eq-eqb, ne-eqb}
+use Rattle.lists.specs.Tests.{not-false, not-true}
+use Rattle.activity_profile.specs.Cells.{sizesInRange, cellsNeeded}
+use Rattle.profile_record.proofs.cells.cells_needed.Statement.{statement}
+use Rattle.profile_record.proofs.cells.cells_needed.Tie as tie
+
+in-range-is : (c : tie.Else1) → let a = c .before .before .args in sizesInRange (a .max-prob-propagation-distance) (a .filter-size) (a .contig-len) ≡ true
+in-range-is c = sym (c .before .are-in-range .ensures) ∙ not-false _ (c .if1 .left)
+
+are-in-range-requires : tie.Need-are-in-range-requires
+are-in-range-requires c κs = search needs
+
+returns : tie.Need-returns
+unfolding cellsNeeded
+returns c = simp (sym (c .before .are-in-range .ensures) ∙ not-true _ (c .if1 .taken))
+
+returns-2 : tie.Need-returns-2
+unfolding cellsNeeded
+returns-2 c = simp (in-range-is (c .before), eq-eqb _ _ (c .if2 .taken))
+
+add-most : tie.Need-add-most
+add-most c = search needs
+
+mul-most : tie.Need-mul-most
+mul-most c = search needs
+
+add-most-2 : tie.Need-add-most-2
+add-most-2 c = search needs
+
+at-most-requires : tie.Need-at-most-requires
+at-most-requires c κs = search needs
+
+returns-3 : tie.Need-returns-3
+unfolding cellsNeeded
+returns-3 c = simp (in-range-is (c .before .before), ne-eqb _ _ (c .before .if2 .left), c .at-most .ensures)
+
+pub cells-needed-spec : {M : Type 1} → statement M
+cells-needed-spec =
+    tie.close
+    (tie.spec
+    are-in-range-requires
+    returns
+    returns-2
+    add-most
+    mul-most
+    add-most-2
+    at-most-requires
+    returns-3)
