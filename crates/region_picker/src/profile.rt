@@ -1,4 +1,4 @@
-// Making a profile, its kernel, adds and pops.
+// Making a profile, its kernel, the cells that it needs, adds and pops.
 use crate::EMPTY;
 use crate::HELD;
 use crate::RECORD;
@@ -8,6 +8,7 @@ use activity_profile::ActivityProfileRegion;
 use activity_profile::ActivityProfileState;
 use activity_profile::Added;
 use activity_profile::BandPassActivityProfile;
+use activity_profile::CellsNeeded;
 use activity_profile::Made;
 use activity_profile::Popped;
 use band_pass_kernel::BandPassActivityProfileParams;
@@ -16,6 +17,7 @@ use genome::Refusal;
 ghost use mathlib.Core.Path.{_≡_};
 ghost use lib.ListN.{length};
 ghost use Rattle.activity_profile.specs.Making.{making, fullAfterMaking, narrowAfterMaking};
+ghost use Rattle.activity_profile.specs.Cells.{cellsNeeded};
 ghost use Rattle.activity_profile.specs.Add.{addAnswer, addCells};
 ghost use Rattle.activity_profile.specs.Pop.{popAnswer, popCells};
 ghost use Rattle.region_picker.specs.Part.{recordOf, profileOf, regionFields, evidenceFrom, stateFrom, paramsFrom};
@@ -93,6 +95,36 @@ pub extern "C" fn region_picker_kernel<'a>(
     };
     band_pass_kernel::copy_kernel(kernel, params.normalized_kernel(filter_size, full, narrow));
     0
+}
+
+// Writes to `cells` how many of them to lend a profile of these settings, so that no add is refused for want of cells where each
+// is followed by unforced pops with this max region size until `HELD` or `EMPTY`. Answers 0, or the number of a refusal,
+// which writes nothing.
+#[no_mangle]
+pub extern "C" fn region_picker_cells_needed(
+    max_region_size: u32,
+    max_prob_propagation_distance: u32,
+    filter_size: u32,
+    contig_len: u32,
+    cells: &mut u32,
+) -> u32
+    ensures { λ r. ⌜ Answers (λ n. n)
+        (cellsNeeded «max_region_size» «max_prob_propagation_distance» «filter_size» «contig_len»)
+        (now (cells .entry)) (now (cells .exit)) r ⌝ }
+{
+    let needed = profile_record::cells_needed(
+        max_region_size,
+        max_prob_propagation_distance,
+        filter_size,
+        contig_len,
+    );
+    match needed {
+        CellsNeeded::Cells(n) => {
+            *cells = n;
+            0
+        }
+        CellsNeeded::Refused(why) => why.number(),
+    }
 }
 
 // Adds the next locus. Answers 0, or the number of a refusal, which writes nothing.
