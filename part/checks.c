@@ -1,5 +1,5 @@
 /* Calls of the part that a maker may get wrong, and what they answer: tables that are stale, unfilled, short or long, kernels without room, NULL with a length
- * of 0, memory that holds NaNs, peaks of every content, bases without a quality, each CIGAR operation. part/examples.sh runs it. Prints each answer that is not the one that part/region_picker.h promises, and then how many are. */
+ * of 0, memory that holds NaNs, cells that are just enough and one fewer, peaks of every content, bases without a quality, each CIGAR operation. part/examples.sh runs it. Prints each answer that is not the one that part/region_picker.h promises, and then how many are. */
 #include "region_picker.h"
 #include <stdio.h>
 #include <string.h>
@@ -111,6 +111,111 @@ static void payloads(void) {
     check("the payloads stay", memcmp(cells, patterns, sizeof cells) == 0 && memcmp(kernel, patterns, sizeof kernel) == 0);
     check("nothing else is written", profile[REGION_PICKER_COUNT] == 4 && region[0] == 7 && region[6] == 7 && region[7] == 7);
     check("the peak's place stays", memcmp(&peak, &patterns[1], sizeof peak) == 0);
+}
+
+/* a number below `below`, the same in every run */
+static uint32_t draw(uint32_t below) {
+    static uint64_t state = 5;
+    state = state * 6364136223846793005u + 1442695040888963407u;
+    return (uint32_t)(state >> 33) % below;
+}
+
+#define WIDEST 1001
+#define MOST_CELLS 1001300 /* max 300, the longest distance and the widest filter */
+
+static double lent[MOST_CELLS], kernel_buffers[2][WIDEST], maker_kernel[WIDEST];
+
+/* a maker: pops unforced after every add, with one max, until held or empty */
+typedef struct {
+    uint32_t profile[REGION_PICKER_PROFILE], max, cells;
+} maker;
+
+/* a fresh profile with this many cells, of NaNs */
+static maker made(uint32_t max, uint32_t distance, uint32_t max_filter, double sigma, bool adaptive, uint32_t length, uint32_t cells) {
+    static const uint64_t nan = 0x7ff8000000000000u;
+    maker m;
+    uint32_t i;
+    m.max = max;
+    m.cells = cells;
+    region_picker_make(m.profile, 3, length, distance, 0.002, max_filter, sigma, adaptive, kernel_buffers[0], WIDEST, kernel_buffers[1], WIDEST);
+    region_picker_kernel(maker_kernel, WIDEST, m.profile[REGION_PICKER_FILTER_SIZE], max_filter, kernel_buffers[0], WIDEST, kernel_buffers[1], WIDEST);
+    for (i = 0; i < cells; i++) memcpy(&lent[i], &nan, sizeof nan);
+    return m;
+}
+
+static uint32_t add(maker *m, uint32_t position, double probability, bool clips) {
+    const size_t n = 2 * (size_t)m->profile[REGION_PICKER_FILTER_SIZE] + 1;
+    const uint32_t answer = region_picker_add(m->profile, 0.002, 3, position, probability, probability, clips, 9, maker_kernel, n, lent, m->cells);
+    uint32_t region[REGION_PICKER_REGION];
+    double peak;
+    if (answer == 10)
+        return answer;
+    while (region_picker_pop(m->profile, 0.002, draw(200), 1 + draw(2 * m->max), m->max, false, lent, m->cells, region, &peak) == 0) {
+    }
+    return answer;
+}
+
+/* whether none of these adds is refused 10: the next locus, now and then another, of every activity, with forced pops and pops of other sizes between */
+static bool is_enough(maker m, uint32_t adds) {
+    uint32_t region[REGION_PICKER_REGION], position = 1 + draw(4);
+    double peak;
+    for (; adds > 0; adds--) {
+        const uint32_t next = m.profile[REGION_PICKER_COUNT] == 0 ? position : m.profile[REGION_PICKER_LAST_INPUT] + 1;
+        if (add(&m, draw(20) == 0 ? draw(300) : next, draw(4) == 0 ? 1.0 : draw(3) / 4.0, draw(3) == 0) == 10)
+            return false;
+        position = m.profile[REGION_PICKER_LAST_INPUT] + 1 + draw(3);
+        if (draw(50) == 0)
+            region_picker_pop(m.profile, 0.002, 0, 1, 1 + draw(9), draw(2), lent, m.cells, region, &peak);
+    }
+    return true;
+}
+
+/* what 1.0 at locus k answers, behind 0.0 at each before it; 99 where one of those is refused */
+static uint32_t zeros_and_one(maker *m, uint32_t k) {
+    uint32_t position;
+    for (position = 1; position < k; position++)
+        if (add(m, position, 0.0, false) != 0)
+            return 99;
+    return add(m, k, 1.0, false);
+}
+
+static uint32_t smaller(uint32_t a, uint32_t b) { return a < b ? a : b; }
+
+/* the cells of one choice of settings: enough, all of them taken by the zeros and the one, and one fewer too few */
+static void cells_of(uint32_t max, uint32_t distance, uint32_t max_filter, double sigma, bool adaptive, uint32_t length, uint32_t adds) {
+    const uint32_t filter = made(max, distance, max_filter, sigma, adaptive, length, 0).profile[REGION_PICKER_FILTER_SIZE];
+    const uint32_t k = smaller(length, max + distance + filter);
+    uint32_t cells = 7, by_max_filter = 7;
+    maker m;
+    check("the cells needed", region_picker_cells_needed(max, distance, filter, length, &cells) == 0 && cells == smaller(length, max + distance + 2 * filter));
+    check("by max filter as many or more", region_picker_cells_needed(max, distance, max_filter, length, &by_max_filter) == 0 && by_max_filter >= cells);
+    check("they are enough", is_enough(made(max, distance, max_filter, sigma, adaptive, length, cells), adds));
+    m = made(max, distance, max_filter, sigma, adaptive, length, cells);
+    check("the list that takes them all", zeros_and_one(&m, k) == 0);
+    m = made(max, distance, max_filter, sigma, adaptive, length, cells - 1);
+    check("one cell fewer is refused 10", zeros_and_one(&m, k) == 10 && m.profile[REGION_PICKER_LAST_INPUT] == k - 1);
+}
+
+/* The number of cells, its refusals, and hundreds of makers who lend just so many. */
+static void cells_needed(void) {
+    uint32_t cells = 7, i;
+    check("max 0", region_picker_cells_needed(0, 50, 50, 1000, &cells) == 11 && cells == 7);
+    check("a distance too far", region_picker_cells_needed(300, 1000001, 50, 1000, &cells) == 1 && cells == 7);
+    check("a filter too wide", region_picker_cells_needed(300, 50, 501, 1000, &cells) == 1 && cells == 7);
+    check("a contig without loci", region_picker_cells_needed(300, 50, 50, 0, &cells) == 1 && cells == 7);
+    check("a contig too long", region_picker_cells_needed(300, 50, 50, 1073741824, &cells) == 1 && cells == 7);
+    check("1 comes before 11", region_picker_cells_needed(0, 1000001, 50, 1000, &cells) == 1 && cells == 7);
+    check("the defaults", region_picker_cells_needed(300, 50, 50, 1073741823, &cells) == 0 && cells == 450);
+    check("sums do not wrap", region_picker_cells_needed(UINT32_MAX, 1000000, 500, 1073741823, &cells) == 0 && cells == 1073741823);
+    cells_of(300, 50, 50, 17.0, true, 1073741823, 3000);
+    cells_of(1, 0, 0, 17.0, true, 1073741823, 300);
+    cells_of(1, 0, 0, 17.0, true, 1, 300);
+    cells_of(300, 1000000, 500, 4096.0, false, 1073741823, 3000);
+    for (i = 0; i < 400; i++) {
+        const uint32_t max = 1 + draw(40), distance = draw(30), max_filter = draw(25), sum = max + distance + 2 * max_filter;
+        const uint32_t lengths[6] = {1, 1 + draw(sum), sum, sum + 1, 1000, 1073741823};
+        cells_of(max, distance, max_filter, draw(3) == 0 ? 17.0 : draw(40) / 8.0 + 0.1, draw(3) != 0, lengths[draw(6)], 300);
+    }
 }
 
 /* whether a forced pop of these patterns hands out the first `size` of them, with its peak at index `at`, to the byte */
@@ -231,6 +336,7 @@ int main(void) {
     tables();
     kernels();
     payloads();
+    cells_needed();
     peaks();
     blanks();
     operations();

@@ -1,6 +1,6 @@
 #!/usr/bin/env bash
 # Builds the part, and the examples in C and in Rust over it, and runs both and the region program on the same words: all three print the same, and the examples the same
-# with peaks. Then runs checks.c.
+# with peaks, and where they pop after each locus. Then runs checks.c.
 # examples.sh [WORDS ...]; without arguments the samples, a stream that is refused, and one that ends within a word.
 set -e
 cd "$(dirname "$0")/.."
@@ -25,6 +25,8 @@ for file in "${words[@]}"; do
     part/examples/rust/target/release/regions peaks < "$file" | cmp target/region.peaks - || { echo "the peaks of C and Rust differ on $file"; exit 1; }
     # without the peaks, which are two numbers behind the five of a region, a line is what it was
     sed 's/^\(\([0-9]* \)\{4\}[0-9]*\) [0-9]* [0-9.]*$/\1/' target/region.peaks | cmp target/region.lines - || { echo "the lines with peaks differ on $file"; exit 1; }
+    target/regions each < "$file" > target/region.each
+    part/examples/rust/target/release/regions each < "$file" | cmp target/region.each - || { echo "C and Rust differ on $file, popped after each locus"; exit 1; }
     echo "$file: $(wc -l < target/region.lines) lines, the same from region, C and Rust"
 done
 gcc -std=c99 -O2 -Wall -Wextra -pedantic -o target/checks part/checks.c target/staticlib/libregion_picker.a

@@ -70,6 +70,14 @@ uint32_t region_picker_make(uint32_t profile[REGION_PICKER_PROFILE], uint32_t co
 uint32_t region_picker_kernel(double *kernel, size_t kernel_length, uint32_t filter_size, uint32_t max_filter_size, const double *full, size_t full_length,
                               const double *narrow, size_t narrow_length);
 
+/* Writes to `cells` how many of them to lend: with so many, or more, no add is refused 10 where you pop after every add, unforced, with this max_region_size, until
+ * held or empty. It runs nothing, so memory can be fixed before there is data; one cell fewer is too few for some loci. filter_size is
+ * profile[REGION_PICKER_FILTER_SIZE]; max_filter_size in its place, which you know before a making, is never too little. The answer is the smaller of contig_length
+ * and max_region_size + max_prob_propagation_distance + 2 * filter_size: 450 for 300, 50 and 50. Refuses 1 for a distance, filter size (0 to 500) or contig length
+ * outside its range, then 11 for a max_region_size of 0. */
+uint32_t region_picker_cells_needed(uint32_t max_region_size, uint32_t max_prob_propagation_distance, uint32_t filter_size, uint32_t contig_length,
+                                    uint32_t *cells);
+
 /* Adds the locus after the last, or any locus to an empty profile. active_prob 0.0 to 1.0; with has_clips, clip_bases is the count of clipped bases that the
  * activity is spread by. Writes the profile and the cells. Refuses 5, 6, 7, 8, 9, 10. */
 uint32_t region_picker_add(uint32_t profile[REGION_PICKER_PROFILE], double active_prob_threshold, uint32_t contig, uint32_t position, double active_prob,

@@ -25,6 +25,7 @@ extern "C" {
         narrow: *const f64,
         narrow_length: usize,
     ) -> u32;
+    pub fn region_picker_cells_needed(max: u32, distance: u32, filter: u32, contig_length: u32, cells: *mut u32) -> u32;
     pub fn region_picker_add(
         profile: *mut u32,
         threshold: f64,

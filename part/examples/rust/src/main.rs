@@ -1,5 +1,6 @@
 //! Reads the words of a small stream from standard input and prints its regions, by the part alone: what the region program prints for them. With the argument
-//! `peaks`, each line goes on with the position of the region's peak and the peak, to six decimals.
+//! `peaks`, each line goes on with the position of the region's peak and the peak, to six decimals. With the argument `each`, it is a maker who pops after each locus,
+//! whatever the stream says, and lends just the cells that this needs.
 mod picker;
 #[path = "../../../region_picker.rs"]
 mod region_picker;
@@ -25,14 +26,15 @@ struct Stream {
     profile: Option<Profile>,
     pile: Option<Pile>,
     with_peaks: bool,
+    pops_each: bool,
 }
 
 /// A refusal with the index of the word that it names.
 type Stopped = (Refusal, u64);
 
 impl Stream {
-    fn new(with_peaks: bool) -> Self {
-        Self { scorer: Scorer::new(), settings: [0, 300, 50, 100, 50, 50, 1_073_741_823], profile: None, pile: None, with_peaks }
+    fn new(with_peaks: bool, pops_each: bool) -> Self {
+        Self { scorer: Scorer::new(), settings: [0, 300, 50, 100, 50, 50, 1_073_741_823], profile: None, pile: None, with_peaks, pops_each }
     }
 
     fn end_pile(&mut self) -> Result<(), Stopped> {
@@ -40,17 +42,27 @@ impl Stream {
             return Ok(());
         };
         let score = self.scorer.score(pile.position, &pile.words);
-        score.and_then(|s| profile.add(pile.position, &s)).map_err(|n| (n, pile.index))
+        score.and_then(|s| profile.add(pile.position, &s)).map_err(|n| (n, pile.index))?;
+        if self.pops_each {
+            self.pop_regions(false, pile.index)?;
+        }
+        Ok(())
     }
 
     fn locus(&mut self, position: u32, index: u64) -> Result<(), Stopped> {
         self.end_pile()?;
         if self.profile.is_none() {
-            let [_, _, _, _, distance, max_filter, contig_length] = self.settings;
-            self.profile = Some(Profile::new(contig_length, distance, max_filter, CELLS).map_err(|n| (n, index))?);
+            self.profile = Some(self.make().map_err(|n| (n, index))?);
         }
         self.pile = Some(Pile { index, position, words: Vec::new() });
         Ok(())
+    }
+
+    fn make(&self) -> Result<Profile, Refusal> {
+        let [_, max, _, _, distance, max_filter, contig_length] = self.settings;
+        let mut profile = Profile::new(contig_length, distance, max_filter)?;
+        profile.lend(if self.pops_each { profile.cells_needed(max)? } else { CELLS });
+        Ok(profile)
     }
 
     fn observation(&mut self, word: u32, index: u64) -> Result<(), Stopped> {
@@ -66,12 +78,21 @@ impl Stream {
         if value > 1 {
             return Err((3, index));
         }
+        let [_, max, min, ..] = self.settings;
+        if self.profile.is_none() {
+            return if max == 0 || min == 0 { Err((11, index)) } else { Ok(()) };
+        }
+        self.pop_regions(value == 1, index)
+    }
+
+    /// Pops until none is ready.
+    fn pop_regions(&mut self, forced: bool, index: u64) -> Result<(), Stopped> {
         let [_, max, min, extension, ..] = self.settings;
         let Some(profile) = self.profile.as_mut() else {
-            return if max == 0 || min == 0 { Err((11, index)) } else { Ok(()) };
+            return Ok(());
         };
         while let Some(([_, start, end, active, padded_start, padded_end, _, position], peak)) =
-            profile.pop(extension, min, max, value == 1).map_err(|n| (n, index))?
+            profile.pop(extension, min, max, forced).map_err(|n| (n, index))?
         {
             print!("{start} {end} {active} {padded_start} {padded_end}");
             if self.with_peaks {
@@ -129,13 +150,14 @@ impl Stream {
 fn main() {
     let arguments: Vec<String> = std::env::args().skip(1).collect();
     let with_peaks = arguments == ["peaks"];
-    if !arguments.is_empty() && !with_peaks {
-        eprintln!("usage: regions [peaks] < WORDS");
+    let pops_each = arguments == ["each"];
+    if !arguments.is_empty() && !with_peaks && !pops_each {
+        eprintln!("usage: regions [peaks | each] < WORDS");
         std::process::exit(2);
     }
     let mut input = Vec::new();
     std::io::stdin().read_to_end(&mut input).expect("standard input is read");
-    if let Err((number, index)) = Stream::new(with_peaks).run(&input) {
+    if let Err((number, index)) = Stream::new(with_peaks, pops_each).run(&input) {
         println!("refused {number} {index}");
     }
 }

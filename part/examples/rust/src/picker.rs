@@ -1,8 +1,8 @@
 //! The part behind a profile and a scorer that own what they lend.
 
 use crate::region_picker::{
-    region_picker_add, region_picker_fill_tables, region_picker_kernel, region_picker_make, region_picker_pop, region_picker_priors_length,
-    region_picker_score, region_picker_table_length,
+    region_picker_add, region_picker_cells_needed, region_picker_fill_tables, region_picker_kernel, region_picker_make, region_picker_pop,
+    region_picker_priors_length, region_picker_score, region_picker_table_length,
 };
 
 /// A refusal's number.
@@ -52,7 +52,8 @@ pub struct Profile {
 }
 
 impl Profile {
-    pub fn new(contig_length: u32, distance: u32, max_filter: u32, cells: usize) -> Result<Self, Refusal> {
+    /// A profile without cells; `lend` gives it some.
+    pub fn new(contig_length: u32, distance: u32, max_filter: u32) -> Result<Self, Refusal> {
         let n = 2 * max_filter as usize + 1;
         let mut numbers = [0; 7];
         let (mut full, mut narrow, mut kernel) = (vec![0.0; n], vec![0.0; n], vec![0.0; n]);
@@ -60,7 +61,20 @@ impl Profile {
         answer(unsafe { region_picker_make(numbers.as_mut_ptr(), 0, contig_length, distance, THRESHOLD, max_filter, 17.0, true, full.as_mut_ptr(), n, narrow.as_mut_ptr(), n) })?;
         answer(unsafe { region_picker_kernel(kernel.as_mut_ptr(), n, numbers[3], max_filter, full.as_ptr(), n, narrow.as_ptr(), n) })?;
         kernel.truncate(2 * numbers[3] as usize + 1);
-        Ok(Self { numbers, kernel, cells: vec![0.0; cells] })
+        Ok(Self { numbers, kernel, cells: Vec::new() })
+    }
+
+    /// How many cells are enough where each add is followed by unforced pops with this max until none is ready.
+    pub fn cells_needed(&self, max: u32) -> Result<usize, Refusal> {
+        let [_, contig_length, distance, filter, ..] = self.numbers;
+        let mut cells = 0;
+        answer(unsafe { region_picker_cells_needed(max, distance, filter, contig_length, &mut cells) })?;
+        Ok(cells as usize)
+    }
+
+    /// Before the first add.
+    pub fn lend(&mut self, cells: usize) {
+        self.cells = vec![0.0; cells];
     }
 
     pub fn add(&mut self, position: u32, score: &Score) -> Result<(), Refusal> {
