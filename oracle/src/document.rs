@@ -84,6 +84,18 @@ impl Record {
     }
 }
 
+/// Document 02, U5: "the smaller of contig length and max + distance + 2 × filter. It refuses 1 for a number outside its range, then 11 for a zero max".
+pub fn cells_needed(max: u32, distance: u32, filter: u32, contig_len: u32) -> Result<u32, u64> {
+    if distance > 1_000_000 || filter > 500 || !(1..=MAX_POSITION).contains(&contig_len) {
+        return Err(1);
+    }
+    if max == 0 {
+        return Err(11);
+    }
+    let sum = i128::from(max) + i128::from(distance) + 2 * i128::from(filter);
+    Ok(sum.min(i128::from(contig_len)) as u32)
+}
+
 /// The refusal's number, or 0; the record and the cells are changed where it is 0.
 pub fn add(record: &mut Record, s: State, kernel: &[f64], cells: &mut [f64]) -> u64 {
     let r = *record;

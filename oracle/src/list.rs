@@ -22,6 +22,7 @@ pub enum Function {
     Log10Sum = 16,
     Region = 17,
     Sheet = 18,
+    CellsNeeded = 19,
 }
 
 /// One answer: the function's number, how many words follow, and the words of the arguments and then of the results.
@@ -53,6 +54,12 @@ impl Answer {
     /// The elements of a slice whose length is known.
     pub fn elements(mut self, xs: &[f64]) -> Self {
         self.words.extend(xs.iter().map(|&x| bits(x)));
+        self
+    }
+
+    /// The words of another, behind these.
+    pub fn then(mut self, other: Self) -> Self {
+        self.words.extend(other.words);
         self
     }
 

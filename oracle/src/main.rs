@@ -6,12 +6,14 @@
 //!     oracle sheet < WORDS
 //!     oracle compare SEED COUNT PROGRAM [SHEET]
 //!     oracle peaks SEED COUNT PROGRAM
+//!     oracle each SEED COUNT PROGRAM
 //!     oracle panel > FILE
 #![allow(dead_code)]
 #![allow(clippy::all)]
 
 mod activity_profile;
 mod activity_scoring;
+mod cells;
 mod clips;
 mod document;
 mod hq_soft_clip;
@@ -43,15 +45,20 @@ fn main() {
         std::io::stdout().write_all(&streams::panel()).expect("the panel is written");
         return;
     }
-    if words.len() >= 4 && (words[0] == "compare" || words[0] == "peaks") {
+    if words.len() >= 4 && ["compare", "peaks", "each"].contains(&words[0].as_str()) {
         let number = |i: usize| words[i].parse::<u64>().expect("a number");
-        let second = if words[0] == "peaks" { Some((words[3].as_str(), Form::Peaks)) } else { words.get(4).map(|w| (w.as_str(), Form::Sheet)) };
-        let programs: Vec<_> = std::iter::once((words[3].as_str(), Form::Listing)).chain(second).collect();
+        let program = words[3].as_str();
+        let programs = match (words[0].as_str(), words.get(4)) {
+            ("each", _) => vec![(program, Form::Each)],
+            ("peaks", _) => vec![(program, Form::Listing), (program, Form::Peaks)],
+            (_, Some(sheet)) => vec![(program, Form::Listing), (sheet.as_str(), Form::Sheet)],
+            _ => vec![(program, Form::Listing)],
+        };
         std::process::exit(i32::from(!streams::compare(&programs, number(1), number(2))));
     }
     let number = |i: usize| words.get(i).and_then(|w| w.parse::<u64>().ok());
     let (Some(name), Some(seed), Some(count)) = (words.first(), number(1), number(2)) else {
-        eprintln!("usage: oracle elementary|kernel|runs|calls|clips|scores|sums|streams|sheets SEED COUNT > FILE, oracle region < WORDS, oracle sheet < WORDS, oracle compare SEED COUNT PROGRAM [SHEET], oracle peaks SEED COUNT PROGRAM, or oracle panel > FILE");
+        eprintln!("usage: oracle elementary|kernel|runs|calls|clips|scores|sums|cells|streams|sheets SEED COUNT > FILE, oracle region < WORDS, oracle sheet < WORDS, oracle compare SEED COUNT PROGRAM [SHEET], oracle peaks SEED COUNT PROGRAM, oracle each SEED COUNT PROGRAM, or oracle panel > FILE");
         std::process::exit(2);
     };
     let mut out = std::io::BufWriter::new(std::io::stdout().lock());
@@ -63,6 +70,7 @@ fn main() {
         "clips" => clips::clip_list(seed, count, &mut out),
         "scores" => scores::score_list(seed, count, &mut out),
         "sums" => scores::sum_list(seed, count, &mut out),
+        "cells" => cells::cell_list(seed, count, &mut out),
         "streams" => streams::stream_list(seed, count, &mut out),
         "sheets" => streams::sheet_list(seed, count, &mut out),
         _ => {

@@ -6,6 +6,8 @@ use crate::runs::Rust;
 use crate::scores::score;
 
 const CELLS: usize = 4096;
+/// More than the streams here have loci: who pops after each locus is never short of cells.
+const PLENTY: usize = 8192;
 const CONTIG: u32 = 0;
 
 /// A refusal: its number and the index of the word that it names.
@@ -44,7 +46,7 @@ struct Profile {
 }
 
 impl Profile {
-    fn new(s: &Settings) -> Self {
+    fn new(s: &Settings, cells: usize) -> Self {
         let (filter, kernel) = s.params().resolved_filter_and_kernel();
         let record = Record {
             contig: CONTIG,
@@ -56,7 +58,7 @@ impl Profile {
             last: 0,
             count: 0,
         };
-        let cells = vec![0.0; CELLS];
+        let cells = vec![0.0; cells];
         let rust = Rust::new(CONTIG, s, &cells);
         Self { record, kernel, cells, rust }
     }
@@ -90,13 +92,15 @@ struct Program {
     profile: Option<Profile>,
     pile: Option<Pile>,
     regions: Vec<Region>,
+    /// Pops unforced after each locus, whatever the stream says, as a maker does for whom the number of cells is meant (document 02, U5).
+    each: bool,
 }
 
 impl Program {
-    fn new() -> Self {
+    fn new(each: bool) -> Self {
         let settings =
             Settings { contig_len: MAX_POSITION, distance: 50, threshold: 0.002, max_filter: 50, sigma: 17.0, adaptive: true };
-        Self { settings, min: 50, max: 300, extension: 100, profile: None, pile: None, regions: Vec::new() }
+        Self { settings, min: 50, max: 300, extension: 100, profile: None, pile: None, regions: Vec::new(), each }
     }
 
     /// "A pile is scored and added when it ends .. its refusals name its locus word."
@@ -112,10 +116,25 @@ impl Program {
         }
         let state = score(&scoring, CONTIG, pile.position, &pile.words);
         let profile = self.profile.as_mut().expect("a locus word came before");
-        match profile.add(state) {
-            0 => Ok(()),
-            n => refused(n),
+        let refusal = profile.add(state);
+        if refusal != 0 {
+            assert!(!self.each || refusal != 10);
+            return refused(refusal);
         }
+        if self.each {
+            self.pops(false, pile.index)?;
+        }
+        Ok(())
+    }
+
+    /// The profile is made at the first locus. One that is popped after each locus has the cells for it, which a zero max has none of.
+    fn make(&mut self, index: u64) -> Result<(), Refusal> {
+        let s = &self.settings;
+        if self.each {
+            document::cells_needed(self.max, s.distance, s.max_filter, s.contig_len).map_err(|n| Refusal(n, index))?;
+        }
+        self.profile = Some(Profile::new(s, if self.each { PLENTY } else { CELLS }));
+        Ok(())
     }
 
     /// "Kind 2: pop until held or empty, value 0 unforced, 1 forced."
@@ -168,7 +187,7 @@ impl Program {
             0 => {
                 self.end_pile()?;
                 if self.profile.is_none() {
-                    self.profile = Some(Profile::new(&self.settings));
+                    self.make(index)?;
                 }
                 self.pile = Some(Pile { index, position: value, words: Vec::new() });
                 Ok(())
@@ -218,7 +237,15 @@ pub struct Printed {
 
 /// Runs the program on this input.
 pub fn run(input: &[u8]) -> Printed {
-    let mut program = Program::new();
+    run_by(Program::new(false), input)
+}
+
+/// The same, popped after each locus too.
+pub fn run_each(input: &[u8]) -> Printed {
+    run_by(Program::new(true), input)
+}
+
+fn run_by(mut program: Program, input: &[u8]) -> Printed {
     let refusal = program.run(input).err();
     Printed { regions: program.regions, refusal }
 }

@@ -114,7 +114,7 @@ fn record_words(answer: Answer, r: &Record) -> Answer {
 
 // ---- lists of calls on one profile
 
-fn some_state(r: &mut Random, record: &Record) -> State {
+pub fn some_state(r: &mut Random, record: &Record) -> State {
     let next = if record.count == 0 { 1 + r.below(6) as u32 } else { record.last + 1 };
     let pos = match r.below(24) {
         0 => 0,
@@ -139,7 +139,7 @@ fn some_state(r: &mut Random, record: &Record) -> State {
     }
 }
 
-fn some_sizes(r: &mut Random) -> Sizes {
+pub fn some_sizes(r: &mut Random) -> Sizes {
     let max = r.pick(&[1, 2, 3, 4, 6]);
     Sizes {
         extension: r.pick(&[0, 1, 3, u32::MAX]),
@@ -149,7 +149,74 @@ fn some_sizes(r: &mut Random) -> Sizes {
     }
 }
 
-/// One run: a making, then calls, each with the record and all cells after it.
+/// One run: a making, then calls, each with the record and all cells after it. Document 01's rules go beside the Rust, and both agree after each call.
+pub struct Run {
+    pub record: Record,
+    cells: Vec<f64>,
+    kernel: Vec<f64>,
+    rust: Rust,
+    made: Answer,
+    calls: u64,
+    called: Answer,
+}
+
+impl Run {
+    /// A fresh profile with n cells, the bit pattern of cell i being fill + i.
+    pub fn new(contig: u32, s: &Settings, n: usize, fill: u64) -> Self {
+        let (filter, kernel) = s.params().resolved_filter_and_kernel();
+        let record =
+            Record { contig, contig_len: s.contig_len, distance: s.distance, threshold: s.threshold, filter, start: 0, last: 0, count: 0 };
+        let cells: Vec<f64> = (0..n as u64).map(|i| f64::from_bits(fill + i)).collect();
+        let rust = Rust::new(contig, s, &cells);
+        let made = Answer::of(Function::Run)
+            .word(contig.into())
+            .word(s.contig_len.into())
+            .word(s.distance.into())
+            .double(s.threshold)
+            .word(s.max_filter.into())
+            .double(s.sigma)
+            .word(s.adaptive.into())
+            .word(fill)
+            .word(n as u64);
+        Self { record, cells, kernel, rust, made, calls: 0, called: Answer::of(Function::Run) }
+    }
+
+    /// The refusal's number, or 0.
+    pub fn add(&mut self, s: State) -> u64 {
+        let refusal = document::add(&mut self.record, s, &self.kernel, &mut self.cells);
+        if refusal == 0 {
+            self.rust.add(s);
+        }
+        self.called(|answer| state_words(answer.word(0), s).word(refusal));
+        refusal
+    }
+
+    pub fn pop(&mut self, sizes: Sizes) -> Popped {
+        let popped = document::pop(&mut self.record, sizes, &mut self.cells);
+        match popped {
+            Popped::Region(region, _) => assert_eq!(self.rust.pop(sizes), Some(region)),
+            Popped::Held | Popped::Empty => assert_eq!(self.rust.pop(sizes), None),
+            Popped::Refused(_) => {}
+        }
+        self.called(|answer| popped_words(sizes_words(answer.word(1), sizes), popped));
+        popped
+    }
+
+    /// The call's words, and what it left.
+    fn called(&mut self, words: impl FnOnce(Answer) -> Answer) {
+        self.rust.agree(&self.record, &self.cells);
+        let called = words(std::mem::replace(&mut self.called, Answer::of(Function::Run)));
+        let r = &self.record;
+        self.called = called.word(r.start.into()).word(r.last.into()).word(r.count.into()).elements(&self.cells);
+        self.calls += 1;
+    }
+
+    pub fn write(self, out: &mut impl Write) {
+        self.made.word(self.calls).then(self.called).write(out);
+    }
+}
+
+/// A run of calls of any kind.
 fn run(r: &mut Random, calls: u64, out: &mut impl Write) {
     let s = Settings {
         contig_len: r.pick(&[1, 9, 40, 1000, 1000, 1000, 1000]),
@@ -160,48 +227,21 @@ fn run(r: &mut Random, calls: u64, out: &mut impl Write) {
         adaptive: r.chance(2),
     };
     let n = r.pick(&[3, 8, 12, 16]);
-    let fill = 0x3fd0_0000_0000_0000 + r.below(1 << 16);
-    let contig = r.below(100) as u32;
-    let (filter, kernel) = s.params().resolved_filter_and_kernel();
-    let mut record =
-        Record { contig, contig_len: s.contig_len, distance: s.distance, threshold: s.threshold, filter, start: 0, last: 0, count: 0 };
-    let mut cells: Vec<f64> = (0..n as u64).map(|i| f64::from_bits(fill + i)).collect();
-    let mut rust = Rust::new(contig, &s, &cells);
-    let mut answer = Answer::of(Function::Run)
-        .word(contig.into())
-        .word(s.contig_len.into())
-        .word(s.distance.into())
-        .double(s.threshold)
-        .word(s.max_filter.into())
-        .double(s.sigma)
-        .word(s.adaptive.into())
-        .word(fill)
-        .word(n as u64)
-        .word(calls);
+    let fill = some_fill(r);
+    let mut run = Run::new(r.below(100) as u32, &s, n, fill);
     for _ in 0..calls {
         if r.chance(3) {
-            let sizes = some_sizes(r);
-            answer = sizes_words(answer.word(1), sizes);
-            let popped = document::pop(&mut record, sizes, &mut cells);
-            match popped {
-                Popped::Region(region, _) => assert_eq!(rust.pop(sizes), Some(region)),
-                Popped::Held | Popped::Empty => assert_eq!(rust.pop(sizes), None),
-                Popped::Refused(_) => {}
-            }
-            answer = popped_words(answer, popped);
+            run.pop(some_sizes(r));
         } else {
-            let s = some_state(r, &record);
-            answer = state_words(answer.word(0), s);
-            let refusal = document::add(&mut record, s, &kernel, &mut cells);
-            if refusal == 0 {
-                rust.add(s);
-            }
-            answer = answer.word(refusal);
+            run.add(some_state(r, &run.record));
         }
-        rust.agree(&record, &cells);
-        answer = answer.word(record.start.into()).word(record.last.into()).word(record.count.into()).elements(&cells);
     }
-    answer.write(out);
+    run.write(out);
+}
+
+/// The bit pattern of the first of the cells that are lent.
+pub fn some_fill(r: &mut Random) -> u64 {
+    0x3fd0_0000_0000_0000 + r.below(1 << 16)
 }
 
 pub fn run_list(seed: u64, count: u64, out: &mut impl Write) {

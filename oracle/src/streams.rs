@@ -434,15 +434,27 @@ fn output_of(program: &str, argument: Option<&str>, input: Vec<u8>) -> String {
     String::from_utf8_lossy(&output.stdout).into_owned()
 }
 
-/// How a program prints the regions: a line each, a sheet, or, asked for `peaks`, a line each with the peak behind it.
+/// How a program prints the regions: a line each, a sheet, or, asked for `peaks`, a line each with the peak behind it; or, asked for `each`, the regions of a maker
+/// who pops after each locus, a line each.
 #[derive(Clone, Copy, PartialEq)]
 pub enum Form {
     Listing,
     Sheet,
     Peaks,
+    Each,
 }
 
-/// Compares what programs print with the oracle, on the edges and on `count` streams; whether all are the same.
+impl Form {
+    fn argument(self) -> Option<&'static str> {
+        match self {
+            Form::Listing | Form::Sheet => None,
+            Form::Peaks => Some("peaks"),
+            Form::Each => Some("each"),
+        }
+    }
+}
+
+/// Compares what programs print with the oracle, on the edges and on `count` streams; whether all are the same. The forms are all `Each`, or none is.
 pub fn compare(programs: &[(&str, Form)], seed: u64, count: u64) -> bool {
     let r = &mut Random::from_seed(seed);
     let fresh = (0..count).map(|_| stream(r));
@@ -450,7 +462,7 @@ pub fn compare(programs: &[(&str, Form)], seed: u64, count: u64) -> bool {
     let mut refused = [0u64; 12];
     for s in edges().into_iter().chain(fresh) {
         let input = s.bytes();
-        let run = region::run(&input);
+        let run = if programs[0].1 == Form::Each { region::run_each(&input) } else { region::run(&input) };
         asked += 1;
         regions += run.count();
         pages += run.count().div_ceil(60);
@@ -463,6 +475,7 @@ pub fn compare(programs: &[(&str, Form)], seed: u64, count: u64) -> bool {
         Form::Listing => "as listings",
         Form::Sheet => "as sheets",
         Form::Peaks => "with peaks",
+        Form::Each => "popped after each locus",
     });
     let forms = names.collect::<Vec<_>>().join(" and ");
     println!("{same} of {asked} streams are the same, {forms}: {regions} regions, {pages} pages; {} streams are refused", refused.iter().sum::<u64>());
@@ -474,11 +487,11 @@ pub fn compare(programs: &[(&str, Form)], seed: u64, count: u64) -> bool {
 /// Whether a program prints a run in this form; where it does not, both are shown.
 fn is_printed(program: &str, form: Form, s: &Stream, run: &region::Printed) -> bool {
     let expected = match form {
-        Form::Listing => run.listing(),
+        Form::Listing | Form::Each => run.listing(),
         Form::Sheet => run.sheet(),
         Form::Peaks => run.peaks(),
     };
-    let printed = output_of(program, (form == Form::Peaks).then_some("peaks"), s.bytes());
+    let printed = output_of(program, form.argument(), s.bytes());
     if printed == expected {
         return true;
     }

@@ -8,7 +8,7 @@ use region_program::TABLE;
 ghost use Prim.Native.Nat.{_<_};
 
 // The functions that an answer may be of, and 0 for any other.
-const FUNCTIONS: usize = 19;
+const FUNCTIONS: usize = 20;
 
 // The words of the longest answer.
 const ANSWER: usize = 16384;
@@ -93,7 +93,7 @@ fn replay_next(
 
 // The place of a function in the tallies; 0 is for answers of no function here.
 fn index_of(function: u64) -> usize
-    ensures { λ r. ⌜ r < 19 ⌝ }
+    ensures { λ r. ⌜ r < 20 ⌝ }
 {
     if function < FUNCTIONS as u64 {
         return function as usize;
@@ -103,7 +103,7 @@ fn index_of(function: u64) -> usize
 
 // Counts an answer.
 fn tally(at: usize, same: bool, asked: &mut [u64; FUNCTIONS], agreed: &mut [u64; FUNCTIONS])
-    requires { ⌜ at < 19 ⌝ }
+    requires { ⌜ at < 20 ⌝ }
 {
     asked[at] = std::num::wrapping_add_u64(asked[at], 1);
     if same {
@@ -124,6 +124,9 @@ fn replay(function: u64, words: &[u64], table: &[f64; TABLE], priors: &[f64; PRI
     }
     if function == 18 {
         return replay_stream::stream(Form::Sheet { rows: 0 }, words, table, priors);
+    }
+    if function == 19 {
+        return replay_making::cells_needed(words);
     }
     replay_scoring::replay(function, words)
 }
@@ -148,6 +151,7 @@ fn report(asked: [u64; FUNCTIONS], agreed: [u64; FUNCTIONS]) {
     line(b"log10_sum_log10", asked[16], agreed[16]);
     line(b"region program", asked[17], agreed[17]);
     line(b"sheet", asked[18], agreed[18]);
+    line(b"cells needed", asked[19], agreed[19]);
     line(b"unknown or malformed", asked[0], agreed[0]);
 }
 

@@ -1,8 +1,10 @@
-// Answers of the elementary functions, the kernel and the making of a profile (docs/LISTS.md, 1 to 9), replayed through the proved library.
-// No public function has a `requires`.
+// Answers of the elementary functions, the kernel and the making of a profile (docs/LISTS.md, 1 to 9), and of the cells that it needs (19),
+// replayed through the proved library. No public function has a `requires`.
+mod cells;
 mod kernel;
 
 use answer_list::Compared;
+pub use cells::cells_needed;
 pub use kernel::params_of;
 ghost use mathlib.Core.Path.{_≡_};
 ghost use mathlib.Core.Bool.{true};
