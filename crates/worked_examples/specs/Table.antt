@@ -3,7 +3,8 @@ use mathlib.Core.Path.{_≡_, refl}
 use mathlib.Core.Bool.{Bool, true, false, cond}
 use mathlib.Core.List.{List, [], _∷_, map}
 use Prim.Native.Nat.{ℕ, _+_, _*_, _<_}
-use lib.ListN.{length}
+use native.Mathlib.Omega.{arith}
+use lib.ListN.{length, replicate}
 use lib.Ieee.{Float, binary64, nan, neg, round, ofBits, toBits, ofInt, toUnsigned, add, sub, div, lt, le, ne}
 use Rattle.lists.specs.Each.{each, upTo}
 use Rattle.lists.specs.Loops.{along, down, firstAt, foldl}
@@ -11,9 +12,12 @@ use Rattle.activity_profile.specs.declared.BandPassActivityProfile.{BandPassAct
 use Rattle.activity_profile.specs.declared.ActivityEvidence.{ActivityEvidence}
 use Rattle.activity_profile.specs.declared.ActivityEvidence.the-variants.{Plain, HighQualitySoftClips}
 use Rattle.activity_profile.specs.Profile.{settingsInRange, placed, broken}
-use Rattle.activity_profile.specs.Add.{superStates}
-use Rattle.activity_profile.specs.Pop.{PopAnswer, refusedPop, emptyPop, heldPop, regionPop, popAnswer, popAnswerBy, popVerdict, turn, kept, qualifies, beats, replaces, better, bestCutSite, orMost, sizeOf, popSize, regionWith, regionOf, rest}
+use Rattle.activity_profile.specs.Add.{superStates, firstLocus, highest, needed, addVerdict, addedProfile, AddAnswer, refusedAdd, acceptedAdd, addAnswerBy, addAnswer, addCellsBy, addCells}
+use Rattle.activity_profile.specs.Pop.{PopAnswer, refusedPop, emptyPop, heldPop, regionPop, popAnswer, popAnswerBy, popCellsBy, popCells, popVerdict, turn, kept, qualifies, beats, replaces, better, bestCutSite, orMost, sizeOf, popSize, regionWith, regionOf, rest}
 use Rattle.activity_profile.specs.Peak.{leads, peakIndex}
+use Rattle.activity_profile.specs.Run.{Lent, step, after}
+use Rattle.activity_profile.specs.Cells.{cellsNeeded}
+use Rattle.activity_profile.specs.Maker.{Sizes, plainAt, zerosFrom}
 use Rattle.genome.specs.Refusals.{Outcome, refused, answered}
 use Rattle.genotype_likelihoods.specs.declared.HaplotypeCallerActivityScoringParams.{HaplotypeCallerActivityScoringParams}
 use Rattle.genotype_likelihoods.specs.Settings.{defaults}
@@ -55,6 +59,21 @@ told (regionPop r p) = 3 ∷ r .start ∷ r .end ∷ []
 numbered : Outcome ℕ → List ℕ
 numbered (refused n) = 0 ∷ n ∷ []
 numbered (answered n) = 1 ∷ n ∷ []
+
+-- 0 and the refusal's number, or 1 and the count after the add
+countTold : AddAnswer → List ℕ
+countTold (refusedAdd n p) = 0 ∷ n ∷ []
+countTold (acceptedAdd p) = 1 ∷ p .count ∷ []
+
+-- zeros at 1 to 3, each popped unforced with max 2, and 1.0 at 4, with n cells; distance 1, F 1
+oneBehindZeros : ℕ → List ℕ
+unfolding profile
+oneBehindZeros n =
+    let kernel = replicate 3 (tenths 3) in
+    let sizes : Sizes = record { extension = 0; least = 1; floor = omega arith } in
+    let fresh : Lent = record { profile = profile 1 1 0 0 0; cells = replicate n (tenths 7) } in
+    let l = after fresh (zerosFrom 1 kernel 2 sizes 1 3) in
+    countTold (addAnswer (l .profile) (l .cells) kernel (plainAt 1 4 (tenths 10)))
 
 -- cells in tenths; "max 4, min 2, distance 1, F 0, .., start 1, last input at the last cell"
 popOf : List ℕ → ℕ → Bool → List ℕ
@@ -192,11 +211,26 @@ table =
     ∷ record { number = 204; given = thenClip 8; wanted = 1 ∷ 0 ∷ [] }
     ∷ record { number = 204; given = thenClip 9; wanted = 0 ∷ 3 ∷ [] }
     ∷ record { number = 204; given = thenClip 15; wanted = 0 ∷ 3 ∷ [] }
+    -- U5: the defaults on a long contig, and on contigs of about as many loci; a sum past 32 bits; max 1, distance 0, filter size 0
+    ∷ record { number = 205; given = numbered (cellsNeeded 300 50 50 1_073_741_823); wanted = 1 ∷ 450 ∷ [] }
+    ∷ record { number = 205; given = numbered (cellsNeeded 300 50 50 451); wanted = 1 ∷ 450 ∷ [] }
+    ∷ record { number = 205; given = numbered (cellsNeeded 300 50 50 449); wanted = 1 ∷ 449 ∷ [] }
+    ∷ record { number = 205; given = numbered (cellsNeeded 4_294_967_295 1_000_000 500 1_073_741_823); wanted = 1 ∷ 1_073_741_823 ∷ [] }
+    ∷ record { number = 205; given = numbered (cellsNeeded 1 0 0 1); wanted = 1 ∷ 1 ∷ [] }
+    -- "1 for a number outside its range, then 11 for a zero max"
+    ∷ record { number = 205; given = numbered (cellsNeeded 0 50 50 1000); wanted = 0 ∷ 11 ∷ [] }
+    ∷ record { number = 205; given = numbered (cellsNeeded 0 1_000_001 50 1000); wanted = 0 ∷ 1 ∷ [] }
+    ∷ record { number = 205; given = numbered (cellsNeeded 300 50 501 1000); wanted = 0 ∷ 1 ∷ [] }
+    ∷ record { number = 205; given = numbered (cellsNeeded 300 50 50 0); wanted = 0 ∷ 1 ∷ [] }
+    -- max 2, distance 1, filter size 1: 5 cells, and with one fewer the 1.0 at locus 4 is refused
+    ∷ record { number = 205; given = numbered (cellsNeeded 2 1 1 100); wanted = 1 ∷ 5 ∷ [] }
+    ∷ record { number = 205; given = oneBehindZeros 5; wanted = 1 ∷ 5 ∷ [] }
+    ∷ record { number = 205; given = oneBehindZeros 4; wanted = 0 ∷ 10 ∷ [] }
     ∷ []
 
 -- the one proof
 pub table-right : allRight table ≡ true
-unfolding table allRight same popOf told peakTold peakOf tenths hundredths profile popAnswer popAnswerBy popVerdict turn kept broken settingsInRange placed qualifies beats replaces better bestCutSite orMost sizeOf popSize regionWith regionOf leads peakIndex along rest superStates numbered clipCount countHigh byOperation thenClip word minimum skippedOf clipsOf evidenceTold effectiveQual lacksQuality skips counted evidenceOf meanOf withWord plOf minF toUnsigned ofInt add sub div ne foldl down firstAt each upTo lt le neg ofBits toBits round
+unfolding table allRight same cellsNeeded oneBehindZeros countTold after step addAnswer addAnswerBy addCells addCellsBy popCells popCellsBy addVerdict addedProfile firstLocus highest needed popOf told peakTold peakOf tenths hundredths profile popAnswer popAnswerBy popVerdict turn kept broken settingsInRange placed qualifies beats replaces better bestCutSite orMost sizeOf popSize regionWith regionOf leads peakIndex along rest superStates numbered clipCount countHigh byOperation thenClip word minimum skippedOf clipsOf evidenceTold effectiveQual lacksQuality skips counted evidenceOf meanOf withWord plOf minF toUnsigned ofInt add sub div ne foldl down firstAt each upTo lt le neg ofBits toBits round
 table-right = refl
 
 -- every row
