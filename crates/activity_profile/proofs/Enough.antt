@@ -22,7 +22,7 @@ use Rattle.activity_profile.specs.Profile.{D, broken}
 use Rattle.activity_profile.specs.Add.{at, firstLocus, needed, brokenAdd, otherContig, offContig, noActivity, notNext, addVerdict, refusedAdd, addAnswerBy, addAnswer}
 use Rattle.activity_profile.specs.Run.{Call, Add, Pop, Lent, step, after}
 use Rattle.activity_profile.specs.Cells.{sizesInRange, cellsFor, cellsNeeded}
-use Rattle.activity_profile.specs.Maker.{UntilHeld, at-held, at-empty, past-region, Fed, none, more, besides, Enough}
+use Rattle.activity_profile.specs.Maker.{UntilHeld, at-held, at-empty, past-region, Fed, none, last, more, refused-add, besides, Enough}
 use Rattle.activity_profile.proofs.Facts.{whole-is, Accepted}
 use Rattle.activity_profile.proofs.Fresh.{fresh-is}
 use Rattle.activity_profile.proofs.Unbroken.{first-is, high-is, fresh-whole}
@@ -112,6 +112,11 @@ refused-is p cells k s m q = go (addVerdict p (length cells) (length k) s) refl
     go (refusal i) e g = e ∙ (let h : i ≡ m = cc in rw h)
     go granted e g = absurd (let z : _≡_ {A = ℕ} 0 1 = cc in omega arith)
 
+refused-count : (l : Lent) (s : ActivityProfileState) (k : List Float) (m : ℕ) (q : BandPassActivityProfile) → addAnswer (l .profile) (l .cells) k s ≡ refusedAdd m q
+    → (step l (Add s k)) .profile .count ≡ l .profile .count
+unfolding step addAnswer addAnswerBy
+refused-count l s k m q e = rw (refused-is (l .profile) (l .cells) k s m q e)
+
 -- what it takes to be refused 10 is not there
 never-10 : (made : BandPassActivityProfile) (n most : ℕ) → 1 ≤ most → cellsFor most (made .«max_prob_propagation_distance») (made .«filter_size») (made .«contig_len») ≤ n
     → (l : Lent) → Idle made n most l → (s : ActivityProfileState) (kernel : List Float) (q : BandPassActivityProfile) → addAnswer (l .profile) (l .cells) kernel s ≡ refusedAdd cellsRefusal q → ⊥
@@ -149,9 +154,13 @@ fed-never : (made : BandPassActivityProfile) (n most : ℕ) → 1 ≤ most → c
     → {l : Lent} {calls : List Call} → Fed most l calls → Idle made n most l → NoneFull l calls
 unfolding after
 fed-never made n most some room (none l) i = tt
+fed-never made n most some room (last l s k) i = (never-10 made n most some room l i s k, tt)
 fed-never made n most some room (more l s k pops calls u f) i =
     let j = popped-idle made n most some u (step-same made n l (Add s k) (i .same)) in
     (never-10 made n most some room l i s k, past-pops most u calls (fed-never made n most some room f j))
+fed-never made n most some room (refused-add l s k m q calls e f) i =
+    let same = step-same made n l (Add s k) (i .same) in
+    (never-10 made n most some room l i s k, fed-never made n most some room f (record { same = same; few = omega (arith, i .few, refused-count l s k m q e) }))
 fed-never made n most some room (besides l x least max forced calls f) i = fed-never made n most some room f (pop-idle made n most some l x least max forced i)
 
 -- ---- from a making

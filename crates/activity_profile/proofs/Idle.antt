@@ -9,7 +9,7 @@ use lib.Ieee.{Float}
 use Rattle.activity_profile.specs.declared.BandPassActivityProfile.{BandPassActivityProfile}
 use Rattle.activity_profile.specs.Verdict.{Verdict, refusal, granted}
 use Rattle.activity_profile.specs.Profile.{D}
-use Rattle.activity_profile.specs.Pop.{Turn, empty, held, ready, popVerdict, turn, kept, popSize, rest, heldPop, emptyPop, popAnswerBy, popAnswer}
+use Rattle.activity_profile.specs.Pop.{Turn, empty, held, ready, popVerdict, turn, kept, popSize, rest, heldPop, popAnswerBy, popAnswer}
 use Rattle.activity_profile.specs.Run.{Call, Pop, Lent, afterPop, step, after}
 use Rattle.activity_profile.specs.Maker.{popOf, UntilHeld, at-held, at-empty, past-region}
 use Rattle.activity_profile.proofs.Facts.{held-is}

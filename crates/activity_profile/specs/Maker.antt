@@ -43,9 +43,14 @@ pub data UntilHeld (most : ℕ) : Lent → List Call → Type 0 where
 -- ".. after every add", whatever its state and kernel are, accepted or refused: the calls from l on
 pub data Fed (most : ℕ) : Lent → List Call → Type 0 where
   none : (l : Lent) → Fed most l []
+  -- the add after which they have not popped yet
+  last : (l : Lent) (s : ActivityProfileState) (kernel : List Float) → Fed most l (Add s kernel ∷ [])
   more : (l : Lent) (s : ActivityProfileState) (kernel : List Float) (pops calls : List Call) → UntilHeld most (step l (Add s kernel)) pops
       → Fed most (after l (Add s kernel ∷ pops)) calls → Fed most l (Add s kernel ∷ pops ++ calls)
-  -- more than document 02 asks: further pops, of any sizes, forced or not, may come between, as they do at the end of a stretch
+  -- more than document 02 asks: a refused add, which changes nothing, needs no pops after it
+  refused-add : (l : Lent) (s : ActivityProfileState) (kernel : List Float) (n : ℕ) (q : BandPassActivityProfile) (calls : List Call)
+      → addAnswer (l .profile) (l .cells) kernel s ≡ refusedAdd n q → Fed most (step l (Add s kernel)) calls → Fed most l (Add s kernel ∷ calls)
+  -- and further pops, of any sizes, forced or not, may come between, as they do at the end of a stretch
   besides : (l : Lent) (extension least max : ℕ) (forced : Bool) (calls : List Call) → Fed most (step l (Pop extension least max forced)) calls
       → Fed most l (Pop extension least max forced ∷ calls)
 
