@@ -1,6 +1,6 @@
 -- 02, U5: with one cell fewer than `cellsNeeded` says, a list of adds whose last is refused 10. Zeros need a cell each and are held up to max + D, and 1.0 at
 -- that locus reaches F further. Assumes nothing.
-use mathlib.Core.Path.{_≡_, refl, sym, ap, _∙_}
+use mathlib.Core.Path.{_≡_, refl, sym, ap, subst, _∙_}
 use mathlib.Core.Bool.{Bool, true, false, cond, _&&_}
 use mathlib.Core.List.{List, [], _∷_}
 use Prim.Native.Nat.{ℕ, zero, suc, _+_, _-_, _<_, _≤_, min, max}
@@ -25,7 +25,7 @@ use Rattle.activity_profile.specs.Add.{at, firstLocus, highest, needed, 
 use Rattle.activity_profile.specs.Pop.{popVerdict, turn, heldPop, popAnswerBy, popAnswer}
 use Rattle.activity_profile.specs.Run.{Add, Lent, step, after, acceptedBy, acceptedIn}
 use Rattle.activity_profile.specs.Cells.{cellsNeeded}
-use Rattle.activity_profile.specs.Maker.{Sizes, popOf, at-held, Fed, none, more, plainAt, zerosFrom, oneLocus, OneFewer}
+use Rattle.activity_profile.specs.Maker.{Sizes, popOf, at-held, Fed, none, more, plainAt, zerosFrom, oneLocus, TooFew}
 use Rattle.activity_profile.proofs.Facts.{Whole}
 use Rattle.activity_profile.proofs.Fresh.{fresh-is}
 use Rattle.activity_profile.proofs.Unbroken.{whole-not, fresh-whole}
@@ -189,7 +189,7 @@ module _ (made : BandPassActivityProfile) (n most : ℕ) (kernel : List Float) (
 
   one-fewer-at : (cells : List Float) → let fresh : Lent = record { profile = made; cells = cells } in
       (k : ℕ) → 1 ≤ k → Zeros made n 0 fresh → k ≤ most + D made → k ≤ suc n → k ≤ made .«contig_len» → n < min (made .«contig_len») (k + made .«filter_size»)
-      → OneFewer made cells kernel most k z
+      → TooFew made cells kernel most k z
   one-fewer-at cells zero low h few room on full = absurd (omega arith)
   one-fewer-at cells (suc j) low h few room on full =
       let e : suc j - 1 ≡ j = omega arith in
@@ -201,15 +201,16 @@ module _ (made : BandPassActivityProfile) (n most : ℕ) (kernel : List Float) (
         full = rw e (one-refused j (after fresh (zerosFrom (made .contig) kernel most z 1 j)) (r .zeros) on full);
       }
 
--- "Where the contig length is at least the formula, a list is shown for which one cell fewer is refused." Where it is shorter as well, so the answer is exact
--- for every max, distance, filter size and contig length.
-pub one-fewer : (contig len : ℕ) (settings : BandPassActivityProfileParams) (i j : ℕ) (p : BandPassActivityProfile) → making contig len settings i j ≡ answered p
-    → (most n : ℕ) → cellsNeeded most (settings .«max_prob_propagation_distance») (p .«filter_size») len ≡ answered n
-    → (cells : List Float) → suc (length cells) ≡ n → (kernel : List Float) → length kernel ≡ band (p .«filter_size») → (z : Sizes)
-    → OneFewer p cells kernel most (oneLocus most (settings .«max_prob_propagation_distance») (p .«filter_size») len) z
-one-fewer contig len settings i j p e most n c cells fewer kernel ek z =
+-- ---- from a making
+
+-- With any number of cells below the one that is answered, such a list: 1.0 at the locus for one cell fewer, or at the first for which no cell is left.
+pub fewer : (contig len : ℕ) (settings : BandPassActivityProfileParams) (i j : ℕ) (p : BandPassActivityProfile) → making contig len settings i j ≡ answered p
+    → (most n : ℕ) → cellsNeeded most (settings .«max_prob_propagation_distance») (p .«filter_size») len ≡ answered n → (cells : List Float) → length cells < n
+    → (kernel : List Float) → length kernel ≡ band (p .«filter_size») → (z : Sizes)
+    → TooFew p cells kernel most (min (suc (length cells)) (oneLocus most (settings .«max_prob_propagation_distance») (p .«filter_size») len)) z
+fewer contig len settings i j p e most n c cells below kernel ek z =
     let f = fresh-is contig len settings i j p e in
-    let a = answered-is most (settings .«max_prob_propagation_distance») (p .«filter_size») len n c in
+    let asked = answered-is most (settings .«max_prob_propagation_distance») (p .«filter_size») len n c in
     let k = oneLocus most (settings .«max_prob_propagation_distance») (p .«filter_size») len in
     let on : 1 ≤ len = leb-true 1 len (and-left (leb 1 len) (leb len maxPosition) (f .on-contig)) in
     let fresh : Lent = record { profile = p; cells = cells } in
@@ -219,5 +220,17 @@ one-fewer contig len settings i j p e most n c cells fewer kernel ek z =
       last = f .no-last;
       start = λ h. absurd (omega arith);
     } in
-    one-fewer-at p (length cells) most kernel z (a .some) ek cells k (omega (arith, a .some)) start
-    (omega (arith, f .same-distance)) (omega (arith, a .is)) (omega (arith, f .same-length)) (omega (arith, a .is, f .same-length))
+    one-fewer-at p (length cells) most kernel z (asked .some) ek cells (min (suc (length cells)) k) (omega (arith, asked .some)) start
+    (omega (arith, f .same-distance)) (omega arith) (omega (arith, f .same-length)) (omega (arith, asked .is, f .same-length))
+
+-- "Where the contig length is at least the formula, a list is shown for which one cell fewer is refused." Where it is shorter as well, so the answer is exact
+-- for every max, distance, filter size and contig length.
+pub one-fewer : (contig len : ℕ) (settings : BandPassActivityProfileParams) (i j : ℕ) (p : BandPassActivityProfile) → making contig len settings i j ≡ answered p
+    → (most n : ℕ) → cellsNeeded most (settings .«max_prob_propagation_distance») (p .«filter_size») len ≡ answered n
+    → (cells : List Float) → suc (length cells) ≡ n → (kernel : List Float) → length kernel ≡ band (p .«filter_size») → (z : Sizes)
+    → TooFew p cells kernel most (oneLocus most (settings .«max_prob_propagation_distance») (p .«filter_size») len) z
+one-fewer contig len settings i j p e most n c cells one kernel ek z =
+    let a = answered-is most (settings .«max_prob_propagation_distance») (p .«filter_size») len n c in
+    let k = oneLocus most (settings .«max_prob_propagation_distance») (p .«filter_size») len in
+    let same : min (suc (length cells)) k ≡ k = omega (arith, a .is) in
+    subst (λ (q : ℕ). TooFew p cells kernel most q z) same (fewer contig len settings i j p e most n c cells (omega arith) kernel ek z)

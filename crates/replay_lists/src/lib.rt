@@ -113,7 +113,7 @@ fn tally(at: usize, same: bool, asked: &mut [u64; FUNCTIONS], agreed: &mut [u64;
 
 // Whether the library's results are those of the answer.
 fn replay(function: u64, words: &[u64], table: &[f64; TABLE], priors: &[f64; PRIORS]) -> bool {
-    if function <= 9 {
+    if (function <= 9) | (function == 19) {
         return replay_making::replay(function, words);
     }
     if function <= 12 {
@@ -124,9 +124,6 @@ fn replay(function: u64, words: &[u64], table: &[f64; TABLE], priors: &[f64; PRI
     }
     if function == 18 {
         return replay_stream::stream(Form::Sheet { rows: 0 }, words, table, priors);
-    }
-    if function == 19 {
-        return replay_making::cells_needed(words);
     }
     replay_scoring::replay(function, words)
 }

@@ -4,7 +4,7 @@ use answer_list::Compared;
 use answer_list::number_at;
 
 // max region size, distance, filter size, contig length; the refusal's number or 0; where 0, the cells.
-pub fn cells_needed(words: &[u64]) -> bool {
+pub(crate) fn cells_needed(words: &[u64]) -> bool {
     let needed = profile_record::cells_needed(
         number_at(words, 0),
         number_at(words, 1),

@@ -1,5 +1,6 @@
 -- `replay` meets its contract: an arm for each function here, and false for any other number.
 use mathlib.Core.Bool.{false≢true}
+use mathlib.Core.Logic.{inl, inr}
 use borrow.Author.Needs.{needs}
 use Rattle.replay_making.proofs.replay.Statement.{statement}
 use Rattle.replay_making.proofs.replay.Tie as tie
@@ -61,35 +62,41 @@ adaptive-filter-size-requires c κs = search needs
 making-requires : tie.Need-making-requires
 making-requires c κs = search needs
 
+cells-needed-requires : tie.Need-cells-needed-requires
+cells-needed-requires c κs = search needs
+
 returns : tie.Need-returns
-returns c = search needs
+returns c = λ e. inl (search needs)
 
 returns-2 : tie.Need-returns-2
-returns-2 c = search needs
+returns-2 c = λ e. inl (search needs)
 
 returns-3 : tie.Need-returns-3
-returns-3 c = search needs
+returns-3 c = λ e. inl (search needs)
 
 returns-4 : tie.Need-returns-4
-returns-4 c = search needs
+returns-4 c = λ e. inl (search needs)
 
 returns-5 : tie.Need-returns-5
-returns-5 c = search needs
+returns-5 c = λ e. inl (search needs)
 
 returns-6 : tie.Need-returns-6
-returns-6 c = search needs
+returns-6 c = λ e. inl (search needs)
 
 returns-7 : tie.Need-returns-7
-returns-7 c = search needs
+returns-7 c = λ e. inl (search needs)
 
 returns-8 : tie.Need-returns-8
-returns-8 c = search needs
+returns-8 c = λ e. inl (search needs)
 
 returns-9 : tie.Need-returns-9
-returns-9 c = search needs
+returns-9 c = λ e. inl (search needs)
 
 returns-10 : tie.Need-returns-10
-returns-10 c = λ e. absurd (false≢true e)
+returns-10 c = λ e. inr (search needs)
+
+returns-11 : tie.Need-returns-11
+returns-11 c = λ e. absurd (false≢true e)
 
 pub replay-spec : {M : Type 1} → statement M
 replay-spec =
@@ -114,6 +121,7 @@ replay-spec =
     make-gaussian-kernel-requires
     adaptive-filter-size-requires
     making-requires
+    cells-needed-requires
     returns
     returns-2
     returns-3
@@ -123,4 +131,5 @@ replay-spec =
     returns-7
     returns-8
     returns-9
-    returns-10)
+    returns-10
+    returns-11)
