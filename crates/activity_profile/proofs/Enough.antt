@@ -25,8 +25,8 @@ use Rattle.activity_profile.specs.Cells.{sizesInRange, cellsFor, cellsNe
 use Rattle.activity_profile.specs.Maker.{UntilHeld, at-held, at-empty, past-region, Fed, none, last, more, refused-add, besides, Enough}
 use Rattle.activity_profile.proofs.Facts.{whole-is, Accepted}
 use Rattle.activity_profile.proofs.Fresh.{fresh-is}
-use Rattle.activity_profile.proofs.Unbroken.{first-is, high-is, fresh-whole}
-use Rattle.activity_profile.proofs.Settings.{step-same}
+use Rattle.activity_profile.proofs.Unbroken.{first-is, high-is}
+use Rattle.activity_profile.proofs.Settings.{step-same, fresh-same}
 use Rattle.activity_profile.proofs.Idle.{Idle, pop-idle, popped-idle}
 
 -- ---- what `cellsNeeded` answers
@@ -172,10 +172,7 @@ for-filter contig len settings i j p e f wide most n c cells room calls fed befo
     let made = fresh-is contig len settings i j p e in
     let a = answered-is most (settings .«max_prob_propagation_distance») f len n c in
     let fresh : Lent = record { profile = p; cells = cells } in
-    let start : Idle p (length cells) most fresh = record {
-      same = record { settings = record { contig = refl; len = refl; distance = refl; filter = refl }; cells = refl; whole = fresh-whole contig len settings i j p e (length cells) };
-      few = omega (arith, made .no-cells, a .some);
-    } in
+    let start : Idle p (length cells) most fresh = record { same = fresh-same contig len settings i j p e cells; few = omega (arith, made .no-cells, a .some) } in
     let wanted : cellsFor most (p .«max_prob_propagation_distance») (p .«filter_size») (p .«contig_len») ≤ length cells =
     omega (arith, a .is, made .same-length, made .same-distance) in
     none-full fresh before rest s kernel (subst (NoneFull fresh) split (fed-never p (length cells) most (a .some) wanted fed start))

@@ -28,8 +28,8 @@ use Rattle.activity_profile.specs.Cells.{cellsNeeded}
 use Rattle.activity_profile.specs.Maker.{Sizes, popOf, at-held, Fed, none, more, plainAt, zerosFrom, oneLocus, TooFew}
 use Rattle.activity_profile.proofs.Facts.{Whole}
 use Rattle.activity_profile.proofs.Fresh.{fresh-is}
-use Rattle.activity_profile.proofs.Unbroken.{whole-not, fresh-whole}
-use Rattle.activity_profile.proofs.Settings.{Same, step-same}
+use Rattle.activity_profile.proofs.Unbroken.{whole-not}
+use Rattle.activity_profile.proofs.Settings.{Same, step-same, fresh-same}
 use Rattle.activity_profile.proofs.Enough.{answered-is}
 
 -- ---- an add that only the cells can refuse
@@ -215,7 +215,7 @@ fewer contig len settings i j p e most n c cells below kernel ek z =
     let on : 1 ≤ len = leb-true 1 len (and-left (leb 1 len) (leb len maxPosition) (f .on-contig)) in
     let fresh : Lent = record { profile = p; cells = cells } in
     let start : Zeros p (length cells) 0 fresh = record {
-      same = record { settings = record { contig = refl; len = refl; distance = refl; filter = refl }; cells = refl; whole = fresh-whole contig len settings i j p e (length cells) };
+      same = fresh-same contig len settings i j p e cells;
       count = f .no-cells;
       last = f .no-last;
       start = λ h. absurd (omega arith);

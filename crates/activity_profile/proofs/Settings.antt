@@ -1,16 +1,21 @@
 -- What every call leaves as it was: the settings, the number of cells, and a record that is not broken. Assumes nothing.
-use mathlib.Core.Path.{_≡_, _∙_}
+use mathlib.Core.Path.{_≡_, refl, _∙_}
+use mathlib.Core.List.{List}
 use Prim.Native.Nat.{ℕ, zero, suc, _-_}
 use lib.ListN.{length}
+use lib.Ieee.{Float}
 use Rattle.lists.specs.Each.{length-each}
+use Rattle.genome.specs.Refusals.{answered}
+use Rattle.band_pass_kernel.specs.declared.BandPassActivityProfileParams.{BandPassActivityProfileParams}
 use Rattle.activity_profile.specs.declared.BandPassActivityProfile.{BandPassActivityProfile}
 use Rattle.activity_profile.specs.declared.ActivityProfileState.{ActivityProfileState}
 use Rattle.activity_profile.specs.Verdict.{Verdict, refusal, granted}
+use Rattle.activity_profile.specs.Making.{making}
 use Rattle.activity_profile.specs.Add.{addVerdict, addedProfile, addAnswerBy, addAnswer, addCellsBy, addCells}
 use Rattle.activity_profile.specs.Pop.{Turn, empty, held, ready, popVerdict, turn, kept, popSize, rest, popAnswerBy, popAnswer, popCellsBy, popCells}
 use Rattle.activity_profile.specs.Run.{Call, Add, Pop, Lent, afterAdd, afterPop, step}
 use Rattle.activity_profile.proofs.Facts.{Whole}
-use Rattle.activity_profile.proofs.Unbroken.{step-whole}
+use Rattle.activity_profile.proofs.Unbroken.{step-whole, fresh-whole}
 
 pub record SameSettings (made p : BandPassActivityProfile) : Type 0 where
   pub contig : p .contig ≡ made .contig
@@ -56,3 +61,11 @@ pub step-same : (made : BandPassActivityProfile) (n : ℕ) (l : Lent) (c : Call)
 step-same made n l c s =
     let t = step-settings made n l c (s .settings) (s .cells) in
     record { settings = t .0; cells = t .1; whole = step-whole l c (s .whole) }
+
+pub fresh-same : (contig len : ℕ) (s : BandPassActivityProfileParams) (i j : ℕ) (p : BandPassActivityProfile) → making contig len s i j ≡ answered p
+    → (cells : List Float) → Same p (length cells) (record { profile = p; cells = cells })
+fresh-same contig len s i j p e cells = record {
+  settings = record { contig = refl; len = refl; distance = refl; filter = refl };
+  cells = refl;
+  whole = fresh-whole contig len s i j p e (length cells);
+}

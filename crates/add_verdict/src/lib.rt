@@ -1,4 +1,4 @@
-// Document 01, 'Adding a locus': whether an add is granted, or which refusal it meets, and the cells that it needs. No
+// Document 01, 'Adding a locus': whether an add is granted, or which refusal it meets, and the cells in use after it. No
 // public function has a `requires`.
 use activity_profile::ActivityProfileState;
 use activity_profile::AddVerdict;
