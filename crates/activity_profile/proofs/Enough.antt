@@ -1,9 +1,10 @@
--- 02, U5: with as many cells as `cellsNeeded` says, no add of a maker who pops after every add until "held" or "empty" is refused 10. Assumes nothing.
+-- 02, U5: with as many cells as `cellsNeeded` says, no add of a maker who pops after every add until "held" or "empty" is refused 10: fewer than max + D cells
+-- are in use before it, and it reaches F further. Assumes nothing.
 use mathlib.Core.Path.{_≡_, refl, _∙_, subst}
 use mathlib.Core.Bool.{Bool, true, false, cond, not}
 use mathlib.Core.List.{List, [], _∷_, _++_}
 use Prim.{⊥, Unit}
-use Prim.Native.Nat.{ℕ, _+_, _*_, _<_, _≤_, min}
+use Prim.Native.Nat.{ℕ, suc, _+_, _*_, _<_, _≤_, min}
 use native.Mathlib.Omega.{arith}
 use borrow.Author.Tests.{eqb-true, eqb-false, ne-eqb, ltb-true, ltb-false, lt-ltb, le-leb}
 use lib.Dec.{eqb, ltb}
@@ -22,11 +23,11 @@ use Rattle.activity_profile.specs.Profile.{D, broken}
 use Rattle.activity_profile.specs.Add.{at, firstLocus, needed, brokenAdd, otherContig, offContig, noActivity, notNext, addVerdict, refusedAdd, addAnswerBy, addAnswer}
 use Rattle.activity_profile.specs.Run.{Call, Add, Pop, Lent, step, after}
 use Rattle.activity_profile.specs.Cells.{sizesInRange, cellsFor, cellsNeeded}
-use Rattle.activity_profile.specs.Maker.{UntilHeld, at-held, at-empty, past-region, Fed, none, last, more, refused-add, besides, Enough}
+use Rattle.activity_profile.specs.Maker.{UntilHeld, at-held, at-empty, past-region, Fed, none, last, more, refused-add, besides, NeverLacksCells, Enough}
 use Rattle.activity_profile.proofs.Facts.{whole-is, Accepted}
 use Rattle.activity_profile.proofs.Fresh.{fresh-is}
 use Rattle.activity_profile.proofs.Unbroken.{first-is, high-is}
-use Rattle.activity_profile.proofs.Settings.{step-same, fresh-same}
+use Rattle.activity_profile.proofs.Settings.{step-same, run-same, fresh-same}
 use Rattle.activity_profile.proofs.Idle.{Idle, pop-idle, popped-idle}
 
 -- ---- what `cellsNeeded` answers
@@ -187,6 +188,16 @@ pub enough-by-max-filter : (contig len : ℕ) (settings : BandPassActivityProfil
     → (most n : ℕ) → cellsNeeded most (settings .«max_prob_propagation_distance») (settings .«max_filter_size») len ≡ answered n → Enough p most n
 enough-by-max-filter contig len settings i j p e =
     for-filter contig len settings i j p e (settings .«max_filter_size») ((fresh-is contig len settings i j p e) .filter-up-to-max)
+
+-- With as many cells as the contig has loci, refusal 10 never occurs to anyone, for every list of calls.
+pub enough-for-all : (contig len : ℕ) (settings : BandPassActivityProfileParams) (i j : ℕ) (p : BandPassActivityProfile) → making contig len settings i j ≡ answered p
+    → (cells : List Float) → len ≤ length cells → (calls : List Call) → NeverLacksCells (record { profile = p; cells = cells }) calls
+enough-for-all contig len settings i j p e cells room calls before rest s kernel split =
+    let fresh : Lent = record { profile = p; cells = cells } in
+    let l = after fresh before in
+    let same = run-same p (length cells) fresh before (fresh-same contig len settings i j p e cells) in
+    let most = suc (l .profile .count) in
+    never-10 p (length cells) most (omega arith) (omega (arith, (fresh-is contig len settings i j p e) .same-length)) l (record { same = same; few = omega arith }) s kernel
 
 -- Settings that a making takes are refused for a zero max alone.
 pub made-answered : (contig len : ℕ) (settings : BandPassActivityProfileParams) (i j : ℕ) (p : BandPassActivityProfile) → making contig len settings i j ≡ answered p

@@ -1,6 +1,6 @@
 -- What every call leaves as it was: the settings, the number of cells, and a record that is not broken. Assumes nothing.
 use mathlib.Core.Path.{_≡_, refl, _∙_}
-use mathlib.Core.List.{List}
+use mathlib.Core.List.{List, [], _∷_}
 use Prim.Native.Nat.{ℕ, zero, suc, _-_}
 use lib.ListN.{length}
 use lib.Ieee.{Float}
@@ -13,7 +13,7 @@ use Rattle.activity_profile.specs.Verdict.{Verdict, refusal, granted}
 use Rattle.activity_profile.specs.Making.{making}
 use Rattle.activity_profile.specs.Add.{addVerdict, addedProfile, addAnswerBy, addAnswer, addCellsBy, addCells}
 use Rattle.activity_profile.specs.Pop.{Turn, empty, held, ready, popVerdict, turn, kept, popSize, rest, popAnswerBy, popAnswer, popCellsBy, popCells}
-use Rattle.activity_profile.specs.Run.{Call, Add, Pop, Lent, afterAdd, afterPop, step}
+use Rattle.activity_profile.specs.Run.{Call, Add, Pop, Lent, afterAdd, afterPop, step, after}
 use Rattle.activity_profile.proofs.Facts.{Whole}
 use Rattle.activity_profile.proofs.Unbroken.{step-whole, fresh-whole}
 
@@ -61,6 +61,11 @@ pub step-same : (made : BandPassActivityProfile) (n : ℕ) (l : Lent) (c : Call)
 step-same made n l c s =
     let t = step-settings made n l c (s .settings) (s .cells) in
     record { settings = t .0; cells = t .1; whole = step-whole l c (s .whole) }
+
+pub run-same : (made : BandPassActivityProfile) (n : ℕ) (l : Lent) (calls : List Call) → Same made n l → Same made n (after l calls)
+unfolding after
+run-same made n l [] s = s
+run-same made n l (c ∷ calls) s = run-same made n (step l c) calls (step-same made n l c s)
 
 pub fresh-same : (contig len : ℕ) (s : BandPassActivityProfileParams) (i j : ℕ) (p : BandPassActivityProfile) → making contig len s i j ≡ answered p
     → (cells : List Float) → Same p (length cells) (record { profile = p; cells = cells })
