@@ -114,7 +114,7 @@ zerosFrom contig kernel most z a (suc n) = Add (plainAt contig a zeroF) kernel �
 abbrev pub oneLocus : ℕ → ℕ → ℕ → ℕ → ℕ
 oneLocus most distance filter len = min len (most + distance + filter)
 
--- lent with the fresh record p, these cells are too few: such a maker's zeros up to locus k are accepted, each, and the 1.0 at k is refused 10
+-- lent with the fresh record p, these cells are too few: of such a maker's adds the zeros before locus k are accepted, each, and the 1.0 at k is refused 10
 pub record TooFew (p : BandPassActivityProfile) (cells kernel : List Float) (most k : ℕ) (z : Sizes) : Type 0 where
   pub fed : Fed most (record { profile = p; cells = cells }) (zerosFrom (p .contig) kernel most z 1 (k - 1))
   pub accepted : acceptedIn (record { profile = p; cells = cells }) (zerosFrom (p .contig) kernel most z 1 (k - 1)) ≡ from 1 (k - 1)

@@ -23,10 +23,10 @@ pub fn cells_needed(
     if max_region_size == 0 {
         return CellsNeeded::Refused(Refusal::ZeroSize);
     }
-    let most = max_region_size as u64
+    let formula = max_region_size as u64
         + max_prob_propagation_distance as u64
         + 2 * (filter_size as u64);
-    CellsNeeded::Cells(at_most(contig_len, most))
+    CellsNeeded::Cells(at_most(contig_len, formula))
 }
 
 // Whether distance, filter size and contig length are in their ranges.

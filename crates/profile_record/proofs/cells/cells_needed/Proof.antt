@@ -22,14 +22,14 @@ returns-2 : tie.Need-returns-2
 unfolding cellsNeeded
 returns-2 c = simp (in-range-is (c .before), eq-eqb _ _ (c .if2 .taken))
 
-add-most : tie.Need-add-most
-add-most c = search needs
+add-formula : tie.Need-add-formula
+add-formula c = search needs
 
-mul-most : tie.Need-mul-most
-mul-most c = search needs
+mul-formula : tie.Need-mul-formula
+mul-formula c = search needs
 
-add-most-2 : tie.Need-add-most-2
-add-most-2 c = search needs
+add-formula-2 : tie.Need-add-formula-2
+add-formula-2 c = search needs
 
 at-most-requires : tie.Need-at-most-requires
 at-most-requires c κs = search needs
@@ -45,8 +45,8 @@ cells-needed-spec =
     are-in-range-requires
     returns
     returns-2
-    add-most
-    mul-most
-    add-most-2
+    add-formula
+    mul-formula
+    add-formula-2
     at-most-requires
     returns-3)
