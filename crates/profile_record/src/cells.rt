@@ -7,8 +7,9 @@ ghost use Prim.Native.Nat.{min};
 ghost use Rattle.activity_profile.specs.Cells.{sizesInRange, cellsNeeded, cellsNeededOf};
 
 // How many cells are enough, from settings alone, for a maker who after every add pops unforced, with this max region size, until
-// "held" or "empty": no add of theirs is refused for want of cells, and with one fewer there are adds that are. The filter size is that of the
-// profile's record; max filter in its place is never too little. Refuses a number outside its range, then a max of 0.
+// "held" or "empty": no add of theirs is refused for want of cells, and with one fewer there are adds that are. The filter
+// size is that of the profile's record; max filter in its place is never too little. Refuses a number outside its range,
+// then a max of 0.
 pub fn cells_needed(
     max_region_size: u32,
     max_prob_propagation_distance: u32,
