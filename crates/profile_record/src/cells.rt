@@ -16,7 +16,8 @@ pub fn cells_needed(
     filter_size: u32,
     contig_len: u32,
 ) -> CellsNeeded
-    ensures { λ r. ⌜ cellsNeededOf r ≡ cellsNeeded «max_region_size» «max_prob_propagation_distance» «filter_size» «contig_len» ⌝ }
+    ensures { λ r. ⌜ cellsNeededOf r
+        ≡ cellsNeeded «max_region_size» «max_prob_propagation_distance» «filter_size» «contig_len» ⌝ }
 {
     if !are_in_range(max_prob_propagation_distance, filter_size, contig_len) {
         return CellsNeeded::Refused(Refusal::Setting);
