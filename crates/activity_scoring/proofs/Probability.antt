@@ -47,7 +47,7 @@ sd-high s e = search (and-left, and-right) depth 12
 holds : (b : Bool) → b ≡ true → T b
 holds b e = subst T (sym e) tt
 
-true-of : (a b : Bool) → T a → T b → (a && b) ≡ true
+pub true-of : (a b : Bool) → T a → T b → (a && b) ≡ true
 true-of true true p q = refl
 true-of true false p q = absurd q
 true-of false b p q = absurd p
@@ -60,7 +60,8 @@ ranges s e = record {
   sd-high = holds (le (s .«heterozygosity_standard_deviation») oneF) (sd-high s e);
 }
 
-activity-unit : (p : GenomePosition) (words : List ℕ) (s : HaplotypeCallerActivityScoringParams) → inRange p s ≡ true → isProbability (activityOf words s .probability) ≡ true
+-- the activity of a pile, by the formulas
+pub activity-unit : (p : GenomePosition) (words : List ℕ) (s : HaplotypeCallerActivityScoringParams) → inRange p s ≡ true → isProbability (activityOf words s .probability) ≡ true
 unfolding activityOf
 activity-unit p words s e =
     let gl = likelihoods s (s .«sample_ploidy» .0 + 1) words in
@@ -70,7 +71,7 @@ activity-unit p words s e =
     true-of (le zeroF (posterior (s .«snp_heterozygosity») (s .«heterozygosity_standard_deviation») (plRoundTrip gl)))
     (le (posterior (s .«snp_heterozygosity») (s .«heterozygosity_standard_deviation») (plRoundTrip gl)) oneF) (u .0) (u .1)
 
-state-unit : (contig : ℕ) (p : GenomePosition) (words : List ℕ) (s : HaplotypeCallerActivityScoringParams) → inRange p s ≡ true → isProbability (stateOf contig p words s .«active_prob») ≡ true
+pub state-unit : (contig : ℕ) (p : GenomePosition) (words : List ℕ) (s : HaplotypeCallerActivityScoringParams) → inRange p s ≡ true → isProbability (stateOf contig p words s .«active_prob») ≡ true
 unfolding stateWith
 state-unit contig p words s e = go (eqb (length words) 0)
   where

@@ -91,7 +91,11 @@ ploidy-small : (s : HaplotypeCallerActivityScoringParams) → settingsInRange s 
 unfolding settingsInRange
 ploidy-small s e = search (leb-true, and-left, and-right) depth 12
 
--- what has to be shown of a table and of a list of priors
+-- by this table and these priors, every pile has the activity that it has without
+abbrev pub Plain : HaplotypeCallerActivityScoringParams → List Float → List Float → Type 0
+Plain s table priors = (words : List ℕ) → activityBy table priors words s ≡ activityOf words s
+
+-- what has to be shown of the table, and of the priors
 abbrev PlainLikelihoods : HaplotypeCallerActivityScoringParams → List Float → Type 0
 PlainLikelihoods s table = (n : ℕ) (words : List ℕ) → likelihoodsBy table s n words ≡ likelihoods s n words
 
@@ -99,36 +103,20 @@ abbrev PlainPosterior : HaplotypeCallerActivityScoringParams → List Float → 
 PlainPosterior s priors = (gl : List Float) → length gl ≡ ploidyOf s + 1
     → posteriorBy priors (s .«snp_heterozygosity») (s .«heterozygosity_standard_deviation») gl ≡ posterior (s .«snp_heterozygosity») (s .«heterozygosity_standard_deviation») gl
 
-activity-plain : (s : HaplotypeCallerActivityScoringParams) (table priors : List Float) (words : List ℕ) → PlainLikelihoods s table → PlainPosterior s priors
-    → activityBy table priors words s ≡ activityOf words s
+activity-plain : (s : HaplotypeCallerActivityScoringParams) (table priors : List Float) → PlainLikelihoods s table → PlainPosterior s priors → Plain s table priors
 unfolding activityBy activityOf
-activity-plain s table priors words f g =
+activity-plain s table priors f g words =
     rw (f (ploidyOf s + 1) words, g (plRoundTrip (likelihoods s (ploidyOf s + 1) words)) (rounded-length (likelihoods s (ploidyOf s + 1) words) ∙ length-likelihoods s (ploidyOf s + 1) words))
 
--- a score that is refused looks at neither
-score-plain : (s : HaplotypeCallerActivityScoringParams) (table priors : List Float) (contig : ℕ) (p : GenomePosition) (words : List ℕ)
-    → (settingsInRange s ≡ true → PlainLikelihoods s table × PlainPosterior s priors) → scoreBy table priors contig p words s ≡ scoreOf contig p words s
-unfolding scoreWith
-score-plain s table priors contig p words f = go (inRange p s) refl
-  where
-    go : (b : Bool) → inRange p s ≡ b → scoreBy table priors contig p words s ≡ scoreOf contig p words s
-    go true e =
-        let plain = f (and-left (settingsInRange s) _ e) in
-        ap (λ (a : Activity). scoreWith (stateWith a contig p words s) p words s) (activity-plain s table priors words (plain .0) (plain .1))
-    go false e = rw e
-
 -- The table was filled for t and the priors for u, into slices of any length; lent is any part of those from the front. The call's settings are s.
-pub score-by-filled : (s t u : HaplotypeCallerActivityScoringParams) (table priors : List Float) → Holds t table → ploidyOf t ≤ 255
+pub plain-by-filled : (s t u : HaplotypeCallerActivityScoringParams) (table priors : List Float) → Holds t table → ploidyOf t ≤ 255
     → HoldsPriors (ploidyOf u) (u .«snp_heterozygosity») (u .«heterozygosity_standard_deviation») priors → ploidyOf u ≤ 255
-    → (contig : ℕ) (p : GenomePosition) (words : List ℕ) → scoreBy table priors contig p words s ≡ scoreOf contig p words s
-score-by-filled s t u table priors held few held-priors few-priors contig p words =
-    score-plain s table priors contig p words
-    (λ e.
-    let small = ploidy-small s e in (
-      λ n ws. likelihoods-by-filled s t table n ws held few (omega (arith, small)),
-      λ gl l. posterior-filled (ploidyOf u) (u .«snp_heterozygosity») (u .«heterozygosity_standard_deviation») (s .«snp_heterozygosity») (s .«heterozygosity_standard_deviation») priors gl
-          held-priors few-priors (omega (arith, small, l)),
-    ))
+    → settingsInRange s ≡ true → Plain s table priors
+plain-by-filled s t u table priors held few held-priors few-priors e =
+    let small = ploidy-small s e in
+    activity-plain s table priors (λ n ws. likelihoods-by-filled s t table n ws held few (omega (arith, small)))
+    (λ gl l. posterior-filled (ploidyOf u) (u .«snp_heterozygosity») (u .«heterozygosity_standard_deviation») (s .«snp_heterozygosity») (s .«heterozygosity_standard_deviation») priors gl
+    held-priors few-priors (omega (arith, small, l)))
 
 -- what a filling that is granted says of its settings and of its slices
 granted-is : (t : HaplotypeCallerActivityScoringParams) (n m : ℕ) → fillVerdict t n m ≡ granted
@@ -145,29 +133,54 @@ granted-is t n m = go (settingsInRange t) (ltb n (tableLength (ploidyOf t))) (lt
     go false b c f g e = absurd (let z : _≡_ {A = ℕ} 0 1 = cc in omega arith)
 
 -- Every filling that is granted, for whatever settings t, and every call, for whatever settings s.
-pub score-filled : (s t : HaplotypeCallerActivityScoringParams) (l k : List Float) → fillVerdict t (length l) (length k) ≡ granted
-    → (contig : ℕ) (p : GenomePosition) (words : List ℕ) → scoreBy (filled t l) (priorsFilled t k) contig p words s ≡ scoreOf contig p words s
-score-filled s t l k e contig p words =
+pub plain-filled : (s t : HaplotypeCallerActivityScoringParams) (l k : List Float) → fillVerdict t (length l) (length k) ≡ granted
+    → settingsInRange s ≡ true → Plain s (filled t l) (priorsFilled t k)
+plain-filled s t l k e =
     let g = granted-is t (length l) (length k) e in
     let small = ploidy-small t (g .0) in
     let byte : ploidyOf t ≤ 255 = omega (arith, small) in
-    score-by-filled s t t (filled t l) (priorsFilled t k) (filled-holds t l (g .1)) byte
-    (filled-priors (ploidyOf t) (t .«snp_heterozygosity») (t .«heterozygosity_standard_deviation») k (g .2)) byte contig p words
+    plain-by-filled s t t (filled t l) (priorsFilled t k) (filled-holds t l (g .1)) byte
+    (filled-priors (ploidyOf t) (t .«snp_heterozygosity») (t .«heterozygosity_standard_deviation») k (g .2)) byte
 
 -- For the call's own settings every slice will do, also one that was too short to be filled.
-pub score-own : (s : HaplotypeCallerActivityScoringParams) (l k : List Float) (contig : ℕ) (p : GenomePosition) (words : List ℕ)
-    → scoreBy (filled s l) (priorsFilled s k) contig p words s ≡ scoreOf contig p words s
-score-own s l k contig p words =
-    score-plain s (filled s l) (priorsFilled s k) contig p words
-    (λ e.
-    let small = ploidy-small s e in (
-      λ n ws. likelihoods-by-own s l n ws (omega (arith, small)),
-      λ gl g. posterior-own (ploidyOf s) (s .«snp_heterozygosity») (s .«heterozygosity_standard_deviation») k gl g (omega (arith, small)),
-    ))
+pub plain-own : (s : HaplotypeCallerActivityScoringParams) (l k : List Float) → settingsInRange s ≡ true → Plain s (filled s l) (priorsFilled s k)
+plain-own s l k e =
+    let small = ploidy-small s e in
+    activity-plain s (filled s l) (priorsFilled s k) (λ n ws. likelihoods-by-own s l n ws (omega (arith, small)))
+    (λ gl g. posterior-own (ploidyOf s) (s .«snp_heterozygosity») (s .«heterozygosity_standard_deviation») k gl g (omega (arith, small)))
 
 -- and slices of zeros that were never filled, of any length; none at all are two of length 0
+pub plain-zeros : (s : HaplotypeCallerActivityScoringParams) (n m : ℕ) → Plain s (replicate n zeroF) (replicate m zeroF)
+plain-zeros s n m =
+    activity-plain s (replicate n zeroF) (replicate m zeroF) (λ k ws. likelihoods-by-zeros s n k ws)
+    (λ gl l. posterior-zeros m (s .«snp_heterozygosity») (s .«heterozygosity_standard_deviation») gl)
+
+-- ---- so is the score
+
+-- a score that is refused looks at neither
+score-plain : (s : HaplotypeCallerActivityScoringParams) (table priors : List Float) (contig : ℕ) (p : GenomePosition) (words : List ℕ)
+    → (settingsInRange s ≡ true → Plain s table priors) → scoreBy table priors contig p words s ≡ scoreOf contig p words s
+unfolding scoreWith
+score-plain s table priors contig p words plain = go (inRange p s) refl
+  where
+    go : (b : Bool) → inRange p s ≡ b → scoreBy table priors contig p words s ≡ scoreOf contig p words s
+    go true e = ap (λ (a : Activity). scoreWith (stateWith a contig p words s) p words s) (plain (and-left (settingsInRange s) _ e) words)
+    go false e = rw e
+
+pub score-by-filled : (s t u : HaplotypeCallerActivityScoringParams) (table priors : List Float) → Holds t table → ploidyOf t ≤ 255
+    → HoldsPriors (ploidyOf u) (u .«snp_heterozygosity») (u .«heterozygosity_standard_deviation») priors → ploidyOf u ≤ 255
+    → (contig : ℕ) (p : GenomePosition) (words : List ℕ) → scoreBy table priors contig p words s ≡ scoreOf contig p words s
+score-by-filled s t u table priors held few held-priors few-priors contig p words =
+    score-plain s table priors contig p words (plain-by-filled s t u table priors held few held-priors few-priors)
+
+pub score-filled : (s t : HaplotypeCallerActivityScoringParams) (l k : List Float) → fillVerdict t (length l) (length k) ≡ granted
+    → (contig : ℕ) (p : GenomePosition) (words : List ℕ) → scoreBy (filled t l) (priorsFilled t k) contig p words s ≡ scoreOf contig p words s
+score-filled s t l k e contig p words = score-plain s (filled t l) (priorsFilled t k) contig p words (plain-filled s t l k e)
+
+pub score-own : (s : HaplotypeCallerActivityScoringParams) (l k : List Float) (contig : ℕ) (p : GenomePosition) (words : List ℕ)
+    → scoreBy (filled s l) (priorsFilled s k) contig p words s ≡ scoreOf contig p words s
+score-own s l k contig p words = score-plain s (filled s l) (priorsFilled s k) contig p words (plain-own s l k)
+
 pub score-zeros : (s : HaplotypeCallerActivityScoringParams) (n m contig : ℕ) (p : GenomePosition) (words : List ℕ)
     → scoreBy (replicate n zeroF) (replicate m zeroF) contig p words s ≡ scoreOf contig p words s
-score-zeros s n m contig p words =
-    score-plain s (replicate n zeroF) (replicate m zeroF) contig p words
-    (λ e. (λ k ws. likelihoods-by-zeros s n k ws, λ gl l. posterior-zeros m (s .«snp_heterozygosity») (s .«heterozygosity_standard_deviation») gl))
+score-zeros s n m contig p words = score-plain s (replicate n zeroF) (replicate m zeroF) contig p words (λ e. plain-zeros s n m)

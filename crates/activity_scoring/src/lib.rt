@@ -7,8 +7,14 @@ mod tables;
 use activity_profile::ActivityProfileState;
 use genome::Refusal;
 pub use mean::hq_soft_clip_running_mean_rcm_path;
+pub use score::MAX_DEPTH;
+pub use score::activity_of;
+pub use score::are_observations;
+pub use score::evidence_of;
 pub use score::haplotype_caller_activity_profile_state_by_tables;
 pub use score::haplotype_caller_activity_profile_state_single_sample;
+pub use score::is_in_range;
+pub use score::state_of;
 pub use tables::fill_tables;
 
 // What scoring answers.

@@ -59,13 +59,15 @@ pub fn haplotype_caller_activity_profile_state_by_tables(
     Scored::Score(state_of(contig, pos, pile, params, table, priors))
 }
 
-fn is_in_range(pos: GenomePosition, params: HaplotypeCallerActivityScoringParams) -> bool
+// Whether the settings and the position are in their ranges: document 01's refusal 1.
+pub fn is_in_range(pos: GenomePosition, params: HaplotypeCallerActivityScoringParams) -> bool
     ensures { λ r. ⌜ r ≡ inRange pos params ⌝ }
 {
     params.in_range() & numbers::within_u32(1, pos.0, genome::MAX_POSITION)
 }
 
-fn are_observations(pile: &[u32]) -> bool
+// Whether every word is an observation: document 01's refusal 3.
+pub fn are_observations(pile: &[u32]) -> bool
     ensures { λ r. ⌜ r ≡ allObservations (now (pile .entry)) ⌝ }
 {
     let mut all = true;
@@ -77,8 +79,8 @@ fn are_observations(pile: &[u32]) -> bool
     all
 }
 
-// The state of a pile that is not refused. An empty pile has no activity.
-fn state_of(
+// The state of a pile whose score is not refused. An empty pile has no activity.
+pub fn state_of(
     contig: u32,
     pos: GenomePosition,
     pile: &[u32],
@@ -86,7 +88,6 @@ fn state_of(
     table: &[f64],
     priors: &[f64],
 ) -> ActivityProfileState
-    requires { ⌜ params .«sample_ploidy» .0 ≤ 100 ⌝ }
     ensures { λ r. ⌜ r ≡ stateBy (now (table .entry)) (now (priors .entry)) contig pos (now (pile .entry)) params ⌝ }
 {
     if pile.len() == 0 {
@@ -109,7 +110,8 @@ fn state_of(
     }
 }
 
-fn evidence_of(mean: f64) -> ActivityEvidence
+// The evidence that a mean of clip counts makes.
+pub fn evidence_of(mean: f64) -> ActivityEvidence
     ensures { λ r. ⌜ r ≡ evidenceOf mean ⌝ }
 {
     if mean > AVERAGE_HQ_SOFTCLIPS_HQ_BASES_THRESHOLD {
@@ -119,15 +121,14 @@ fn evidence_of(mean: f64) -> ActivityEvidence
     ActivityEvidence::Plain
 }
 
-// Likelihoods in an array with room for them: the largest ploidy is 100, and a small one has a small array, since an
-// array is cleared first.
-fn activity_of(
+// The activity of a pile, by the formulas. Its likelihoods stand in an array with room for them: an array is cleared
+// first, so that the usual ploidies have small ones, and 100 is the largest that is not refused.
+pub fn activity_of(
     pile: &[u32],
     params: HaplotypeCallerActivityScoringParams,
     table: &[f64],
     priors: &[f64],
 ) -> Activity
-    requires { ⌜ params .«sample_ploidy» .0 ≤ 100 ⌝ }
     ensures { λ r. ⌜ r ≡ activityBy (now (table .entry)) (now (priors .entry)) (now (pile .entry)) params ⌝ }
 {
     let p = params.sample_ploidy;
@@ -135,8 +136,12 @@ fn activity_of(
         let mut few = [0.0; 4];
         return activity_at_front(&mut few, pile, params, table, priors);
     }
-    let mut many = [0.0; 101];
-    activity_at_front(&mut many, pile, params, table, priors)
+    if p.0 <= 100 {
+        let mut many = [0.0; 101];
+        return activity_at_front(&mut many, pile, params, table, priors);
+    }
+    let mut most = [0.0; 256];
+    activity_at_front(&mut most, pile, params, table, priors)
 }
 
 fn activity_at_front(

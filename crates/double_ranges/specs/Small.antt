@@ -1,12 +1,13 @@
 -- Values of size 1 at most, with a sign: products, quotients by what is 1 at least, and 1 less such a value are of size 1 at most too, whatever is
 -- rounded. So what a program computes as 1 - z, from a z in 0 to 1, is in 0 to 1. Assumes nothing.
 use mathlib.Core.Path.{_≡_, refl, sym, ap, _∙_, subst}
-use Prim.Native.Nat.{ℕ, _-_, _*_, _≤_, _<_, zero-le}
+use Prim.Native.Nat.{ℕ, _+_, _-_, _*_, _≤_, _<_, zero-le}
 use native.Mathlib.Nat.{le-trans, le-of-eq, le-of-mul-le-mul-right, mul-comm, lt-of-lt-of-le, zero-lt-suc, zero-mul, mul-le-mul, mul-pos}
 use native.Mathlib.Omega.{arith}
 use mathlib.Core.Bool.{Bool, true, false, not, cond, true≢false}
 use lib.Dec.{T, ltb, eqb, ltb→lt, eqb→eq}
 use lib.Ieee.{Float, nan, inf, fin, Format, binary64, prec, unlike, up, down, round, neg, sum, add, sub, mul, div, le, ofBits}
+use lib.IntN.{ℤ}
 use lib.Pow.{pow-pos}
 use lib.Ieee.Fits.{down-pos}
 use lib.Ieee.Exact.{HasValue}
@@ -14,7 +15,7 @@ use lib.Ieee.Back.{round-whole}
 use lib.Ieee.Order.{round-mono, le-of-values}
 use Rattle.doubles.specs.Constants.{zeroF, oneF}
 use Rattle.doubles.specs.Shift.{AtLeast}
-use Rattle.double_ranges.specs.Order.{tested}
+use Rattle.double_ranges.specs.Order.{tested, at-most-of-le}
 use Rattle.double_ranges.specs.Sign.{Plus, round-plus, round-neg}
 
 abbrev pub Small : Bool → Float → Type 0
@@ -121,3 +122,16 @@ unit-of-small (fin s m e) p = (
   le-of-values zeroF (fin s m e) 0 1 (m * up e) (down e) (zero-lt-suc 0) (down-pos e) zero-is (p .0, refl) (omega arith),
   le-of-values (fin s m e) oneF (m * up e) (down e) 1 1 (down-pos e) (zero-lt-suc 0) (p .0, refl) one-is (omega (arith, p .1)),
 )
+
+-- 1 less what passes that test
+less-minus-zero : (m : ℕ) (e : ℤ) → m * up e ≡ 0 → Small false (sub binary64 oneF (fin true m e))
+unfolding sub neg add sum ofBits
+less-minus-zero m e z = round-small binary64 false (1 * down e + m * up e * 1) (1 * down e) (omega (arith, down-pos e)) (omega (arith, z))
+
+pub one-less-unit : (x : Float) → T (le zeroF x) → T (le x oneF) → Small false (sub binary64 oneF x)
+unfolding ofBits
+one-less-unit nan p q = absurd (at-most-of-le zeroF nan p)
+one-less-unit (inf true) p q = absurd (true≢false (at-most-of-le zeroF (inf true) p))
+one-less-unit (inf false) p q = absurd (at-most-of-le (inf false) oneF q)
+one-less-unit (fin false m e) p q = one-less (fin false m e) (small-of-le (fin false m e) oneF refl one-is q)
+one-less-unit (fin true m e) p q = less-minus-zero m e (at-most-of-le zeroF (fin true m e) p .1)

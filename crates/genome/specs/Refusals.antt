@@ -1,9 +1,9 @@
--- 01, Refusals: the number of each, and what a call that may be refused comes to.
+-- 01, Refusals, and those of document 02: the number of each, and what a call that may be refused comes to.
 use Prim.Native.Nat.{ℕ}
 use Rattle.genome.specs.declared.Refusal.{Refusal}
-use Rattle.genome.specs.declared.Refusal.the-variants.{Setting, Buffer, Word, Depth, BrokenProfile, Contig, OffContig, Activity, NotNext, Cells, ZeroSize}
+use Rattle.genome.specs.declared.Refusal.the-variants.{Setting, Buffer, Word, Depth, BrokenProfile, Contig, OffContig, Activity, NotNext, Cells, ZeroSize, Piles}
 
--- the numbers of document 01, in its words
+-- the numbers of document 01
 abbrev pub settingRefusal : ℕ
 settingRefusal = 1
 
@@ -37,6 +37,10 @@ cellsRefusal = 10
 abbrev pub zeroSizeRefusal : ℕ
 zeroSizeRefusal = 11
 
+-- 02, U6: "12 when a set has more than 64 piles"
+abbrev pub pilesRefusal : ℕ
+pilesRefusal = 12
+
 abbrev pub numberOf : Refusal → ℕ
 numberOf Setting = settingRefusal
 numberOf Buffer = bufferRefusal
@@ -49,6 +53,7 @@ numberOf Activity = activityRefusal
 numberOf NotNext = notNextRefusal
 numberOf Cells = cellsRefusal
 numberOf ZeroSize = zeroSizeRefusal
+numberOf Piles = pilesRefusal
 
 -- a refusal's number, or the answer
 pub data Outcome (A : Type 0) : Type 0 where

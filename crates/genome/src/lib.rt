@@ -1,4 +1,4 @@
-// Units on the genome, the longest contig, the byte of a missing quality, and document 01's refusals with their numbers.
+// Units on the genome, the longest contig, the byte of a missing quality, and the refusals with their numbers.
 // No public function has a `requires`.
 ghost use mathlib.Core.Path.{_≡_};
 ghost use Rattle.genome.specs.Refusals.{numberOf};
@@ -15,7 +15,7 @@ pub const MAX_POSITION: u32 = 1_073_741_823;
 // The byte that SAM has where a base has no quality: document 02, U3.
 pub const MISSING_QUALITY: u8 = 255;
 
-// Document 01's refusals.
+// Document 01's refusals, and document 02's.
 pub enum Refusal {
     // A setting outside its range.
     Setting,
@@ -39,10 +39,12 @@ pub enum Refusal {
     Cells,
     // A region size of 0.
     ZeroSize,
+    // A set of too many piles: document 02, U6.
+    Piles,
 }
 
 impl Refusal {
-    // The refusal's number in document 01.
+    // The refusal's number.
     pub fn number(self) -> u32
         ensures { λ r. ⌜ r ≡ numberOf self ⌝ }
     {
@@ -58,6 +60,7 @@ impl Refusal {
             Refusal::NotNext => 9,
             Refusal::Cells => 10,
             Refusal::ZeroSize => 11,
+            Refusal::Piles => 12,
         }
     }
 }

@@ -1,10 +1,7 @@
 -- `haplotype_caller_activity_profile_state_by_tables` meets its contract: the refusals in their order, or the state.
 use borrow.Author.Needs.{needs}
 use borrow.Author.Tests.{le-ltb, lt-ltb}
-use mathlib.Core.Path.{_∙_, sym}
-use Rattle.activity_scoring.proofs.Counts.{ploidy-at-most}
 use Rattle.activity_scoring.specs.Score.{scoreWith}
-use Rattle.lists.specs.Tests.{not-false}
 use Rattle.activity_scoring.proofs.score.haplotype_caller_activity_profile_state_by_tables.Statement.{statement}
 use Rattle.activity_scoring.proofs.score.haplotype_caller_activity_profile_state_by_tables.Tie as tie
 
@@ -29,10 +26,7 @@ returns-3 c =
     simp (← range .is-in-range .ensures, c .before .before .before .if1 .left, le-ltb _ _ (c .before .before .if2 .left), ← c .before .are-observations .ensures, c .if3 .taken)
 
 state-of-requires : tie.Need-state-of-requires
-state-of-requires c κs =
-    let at = c .before .before .before .before in
-    let a = at .before .before .before .before .args in
-    ploidy-at-most (a .pos) (a .params) (sym (at .is-in-range .ensures) ∙ not-false (at .is-in-range .result) (c .before .before .before .if1 .left))
+state-of-requires c κs = search needs
 
 returns-4 : tie.Need-returns-4
 unfolding scoreWith
