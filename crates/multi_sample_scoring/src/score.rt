@@ -1,0 +1,111 @@
+// The score of a set.
+use crate::MAX_PILES;
+use crate::lengths::count_left;
+use crate::lengths::is_any_too_deep;
+use crate::lengths::total_of;
+use crate::posterior::calculate_multi_sample_any_non_ref_posterior;
+use activity_profile::ActivityProfileState;
+use activity_scoring::Scored;
+use genome::GenomePosition;
+use genome::Refusal;
+use genotype_likelihoods::HaplotypeCallerActivityScoringParams;
+ghost use mathlib.Core.Path.{_≡_};
+ghost use Prim.Native.Nat.{_≤_};
+ghost use lib.ListN.{length};
+ghost use Rattle.activity_scoring.specs.Score.{scoredOf};
+ghost use Rattle.multi_sample_scoring.specs.Sets.{maxPiles, total, setScoreOf};
+ghost use Rattle.multi_sample_scoring.specs.Tables.{setStateBy, setScoreBy};
+
+// Scores a set of piles. Refuses more than 64 piles, then a setting or a position outside its range, then a pile that is
+// too deep, then lengths that do not add up to the run, then a word that is no observation.
+pub fn haplotype_caller_activity_profile_state_multi_sample(
+    contig: u32,
+    pos: GenomePosition,
+    words: &[u32],
+    lengths: &[u32],
+    params: HaplotypeCallerActivityScoringParams,
+) -> Scored
+    ensures { λ r. ⌜ scoredOf r ≡ setScoreOf contig pos (now (words .entry)) (now (lengths .entry)) params ⌝ }
+{
+    let array = [0.0; 1];
+    let none = &array[..0];
+    haplotype_caller_activity_profile_state_multi_sample_by_tables(
+        contig,
+        pos,
+        words,
+        lengths,
+        params,
+        none,
+        none,
+    )
+}
+
+// The same score from tables that `activity_scoring::fill_tables` filled, as for one pile.
+pub fn haplotype_caller_activity_profile_state_multi_sample_by_tables(
+    contig: u32,
+    pos: GenomePosition,
+    words: &[u32],
+    lengths: &[u32],
+    params: HaplotypeCallerActivityScoringParams,
+    table: &[f64],
+    priors: &[f64],
+) -> Scored
+    ensures { λ r. ⌜ scoredOf r
+        ≡ setScoreBy (now (table .entry)) (now (priors .entry)) contig pos (now (words .entry)) (now (lengths .entry)) params ⌝ }
+{
+    let many = lengths.len() > MAX_PILES;
+    let in_range = activity_scoring::is_in_range(pos, params);
+    if many {
+        return Scored::Refused(Refusal::Piles);
+    }
+    if !in_range {
+        return Scored::Refused(Refusal::Setting);
+    }
+    let deep = is_any_too_deep(lengths);
+    let whole = total_of(lengths) == words.len();
+    if deep {
+        return Scored::Refused(Refusal::Depth);
+    }
+    if !whole {
+        return Scored::Refused(Refusal::Word);
+    }
+    if !activity_scoring::are_observations(words) {
+        return Scored::Refused(Refusal::Word);
+    }
+    Scored::Score(set_state(contig, pos, words, lengths, params, table, priors))
+}
+
+// The state of a set that is not refused. Where at most one pile is left, the run is that pile.
+fn set_state(
+    contig: u32,
+    pos: GenomePosition,
+    words: &[u32],
+    lengths: &[u32],
+    params: HaplotypeCallerActivityScoringParams,
+    table: &[f64],
+    priors: &[f64],
+) -> ActivityProfileState
+    requires { ⌜ (length (now lengths) ≤ maxPiles) × (total (now lengths) ≡ length (now words)) ⌝ }
+    ensures { λ r. ⌜ r
+        ≡ setStateBy (now (table .entry)) (now (priors .entry)) contig pos (now (words .entry)) (now (lengths .entry)) params ⌝ }
+{
+    if count_left(lengths) < 2 {
+        return activity_scoring::state_of(contig, pos, words, params, table, priors);
+    }
+    let mean = activity_scoring::hq_soft_clip_running_mean_rcm_path(words, params);
+    let evidence = activity_scoring::evidence_of(mean);
+    let active_prob = calculate_multi_sample_any_non_ref_posterior(
+        words,
+        lengths,
+        params,
+        table,
+        priors,
+    );
+    ActivityProfileState {
+        contig,
+        pos,
+        active_prob,
+        original_active_prob: 0.0,
+        evidence,
+    }
+}
