@@ -1,4 +1,4 @@
-// Scoring a pile by tables, and the count of soft-clipped bases.
+// Scoring a pile or a set of piles by tables, and the count of soft-clipped bases.
 use activity_profile::ActivityEvidence;
 use activity_scoring::Filling;
 use activity_scoring::Scored;
@@ -10,7 +10,9 @@ ghost use mathlib.Core.Path.{_≡_};
 ghost use lib.ListN.{length};
 ghost use Rattle.contribution_table.specs.Table.{tableLength};
 ghost use Rattle.genotype_posterior.specs.Priors.{priorsLength};
+ghost use Rattle.activity_scoring.specs.Score.{scoredOf};
 ghost use Rattle.activity_scoring.specs.Tables.{fillVerdict, tableAfter, priorsAfter, scoreBy};
+ghost use Rattle.multi_sample_scoring.specs.Tables.{setScoreBy};
 ghost use Rattle.hq_soft_clip.specs.SoftClips.{clipCount};
 ghost use Rattle.region_picker.specs.Part.{scoringFrom, evidenceFields, verdictNumber, Answers, Scores};
 
@@ -115,6 +117,62 @@ pub extern "C" fn region_picker_score(
         table,
         priors,
     );
+    write_score(scored, activity, evidence)
+}
+
+// Scores a set of piles: `words` is one run, and `lengths` has how many words each pile has, in their order; the lengths
+// add up to the run. Answers as `region_picker_score` does, and 12 for more than 64 piles.
+#[no_mangle]
+pub extern "C" fn region_picker_score_set(
+    pos: u32,
+    words: &[u32],
+    lengths: &[u32],
+    table: &[f64],
+    priors: &[f64],
+    min_base_quality_score: u8,
+    sample_ploidy: u8,
+    snp_heterozygosity: f64,
+    heterozygosity_standard_deviation: f64,
+    ref_model_deletion_qual: u8,
+    active_region_alt_multiplier: f64,
+    flow_based_reference_model: bool,
+    activity: &mut [f64; 2],
+    evidence: &mut [u32; 2],
+) -> u32
+    ensures { λ r. ⌜ Scores
+        (setScoreBy (now (table .entry)) (now (priors .entry)) 0 (record { 0 = pos }) (now (words .entry)) (now (lengths .entry))
+        (scoringFrom «min_base_quality_score» «sample_ploidy» «snp_heterozygosity»
+        «heterozygosity_standard_deviation» «ref_model_deletion_qual» «active_region_alt_multiplier»
+        «flow_based_reference_model»))
+        (now (activity .entry)) (now (activity .exit)) (now (evidence .entry)) (now (evidence .exit)) r ⌝ }
+{
+    let params = scoring_params(
+        min_base_quality_score,
+        sample_ploidy,
+        snp_heterozygosity,
+        heterozygosity_standard_deviation,
+        ref_model_deletion_qual,
+        active_region_alt_multiplier,
+        flow_based_reference_model,
+    );
+    let scored =
+        multi_sample_scoring::haplotype_caller_activity_profile_state_multi_sample_by_tables(
+            0,
+            GenomePosition(pos),
+            words,
+            lengths,
+            params,
+            table,
+            priors,
+        );
+    write_score(scored, activity, evidence)
+}
+
+// Writes a score's numbers and answers 0, or answers the refusal's number.
+fn write_score(scored: Scored, activity: &mut [f64; 2], evidence: &mut [u32; 2]) -> u32
+    ensures { λ r. ⌜ Scores (scoredOf scored)
+        (now (activity .entry)) (now (activity .exit)) (now (evidence .entry)) (now (evidence .exit)) r ⌝ }
+{
     match scored {
         Scored::Score(s) => {
             *activity = [s.active_prob, s.original_active_prob];
