@@ -1,5 +1,5 @@
 /* Calls of the part that a maker may get wrong, and what they answer: tables that are stale, unfilled, short or long, kernels without room, NULL with a length
- * of 0, memory that holds NaNs, cells that are just enough and one fewer, peaks of every content, bases without a quality, each CIGAR operation. part/examples.sh runs it. Prints each answer that is not the one that part/region_picker.h promises, and then how many are. */
+ * of 0, memory that holds NaNs, cells that are just enough and one fewer, peaks of every content, bases without a quality, each CIGAR operation, sets of piles. part/examples.sh runs it. Prints each answer that is not the one that part/region_picker.h promises, and then how many are. */
 #include "region_picker.h"
 #include <stdio.h>
 #include <string.h>
@@ -332,6 +332,89 @@ static void operations(void) {
     }
 }
 
+#define MOST_PILES 64
+#define DEEPEST 16384
+
+static uint32_t run[MOST_PILES * DEEPEST + 1];
+
+/* the score of a set, by the tables or without; what no call writes is all ones */
+static score scored_set(size_t n, const uint32_t *lengths, size_t m, bool by_tables, uint8_t ploidy) {
+    score s;
+    memset(&s, 0xff, sizeof s);
+    s.answer = region_picker_score_set(1, run, n, lengths, m, table, by_tables ? region_picker_table_length(ploidy) : 0, priors,
+                                       by_tables ? region_picker_priors_length(ploidy) : 0, 10, ploidy, 0.001, 0.01, 30, 1.0, false, s.activity, s.evidence);
+    return s;
+}
+
+/* the same made of the scores of each pile alone; the evidence is that of the run as one pile, where it is not too deep for one */
+static score by_members(size_t n, const uint32_t *lengths, size_t m, uint8_t ploidy) {
+    score s, one;
+    size_t i, at = 0, left = 0;
+    double inactive = 1.0;
+    memset(&s, 0, sizeof s);
+    for (i = 0; i < m; at += lengths[i], i++) {
+        if (lengths[i] == 0) continue;
+        memset(&one, 0, sizeof one);
+        one.answer = region_picker_score(1, run + at, lengths[i], NULL, 0, NULL, 0, 10, ploidy, 0.001, 0.01, 30, 1.0, false, one.activity, one.evidence);
+        check("a pile of the set is accepted alone", one.answer == 0);
+        inactive *= 1.0 - one.activity[0];
+        left++;
+    }
+    if (left == 1) return one;
+    if (left > 1) {
+        region_picker_score(1, run, n <= DEEPEST ? n : 0, NULL, 0, NULL, 0, 10, ploidy, 0.001, 0.01, 30, 1.0, false, s.activity, s.evidence);
+        s.activity[0] = 1.0 - inactive;
+        s.activity[1] = 0.0;
+    }
+    return s;
+}
+
+static bool is_refused(score s, uint32_t number) {
+    score untouched;
+    memset(&untouched, 0xff, sizeof untouched);
+    untouched.answer = number;
+    return same(s, untouched);
+}
+
+/* Sets of piles: made of their members' scores, by the tables and without, up to the largest, and refused in their order. */
+static void sets(void) {
+    static const uint8_t ploidies[3] = {1, 2, 10};
+    uint32_t lengths[MOST_PILES + 1];
+    uint32_t k, i, n, m;
+    for (k = 0; k < 3; k++) {
+        check("tables for sets", fill(LONGEST, 104, ploidies[k], 0.001, 0.01, 1.0) == 0);
+        for (m = 0; m <= MOST_PILES; m++) {
+            score members;
+            for (i = 0, n = 0; i < m; n += lengths[i++]) lengths[i] = draw(3) ? 1 + draw(5) : 0;
+            for (i = 0; i < n; i++) run[i] = observation(draw(5) ? 8 + draw(30) : 255, draw(9) == 0, draw(3) == 0, draw(3) == 0, draw(14));
+            members = by_members(n, lengths, m, ploidies[k]);
+            check("a set without tables", same(members, scored_set(n, lengths, m, false, ploidies[k])));
+            check("a set by the tables", same(members, scored_set(n, lengths, m, true, ploidies[k])));
+        }
+    }
+    for (i = 0; i <= MOST_PILES * DEEPEST; i++) run[i] = observation(20 + i % 20, false, i % 7 == 0, false, 0);
+    for (i = 0; i <= MOST_PILES; i++) lengths[i] = DEEPEST;
+    check("tables for the largest set", fill(LONGEST, 104, 2, 0.001, 0.01, 1.0) == 0);
+    check("the largest set", same(by_members(MOST_PILES * DEEPEST, lengths, MOST_PILES, 2), scored_set(MOST_PILES * DEEPEST, lengths, MOST_PILES, true, 2)));
+    check("a word more than the lengths", is_refused(scored_set(MOST_PILES * DEEPEST + 1, lengths, MOST_PILES, true, 2), 3));
+    check("a word fewer", is_refused(scored_set(MOST_PILES * DEEPEST - 1, lengths, MOST_PILES, true, 2), 3));
+    check("a pile more", is_refused(scored_set(MOST_PILES * DEEPEST, lengths, MOST_PILES + 1, true, 2), 12));
+    run[0] = 7;
+    check("a word that is none, in the first pile", is_refused(scored_set(MOST_PILES * DEEPEST, lengths, MOST_PILES, true, 2), 3));
+    lengths[MOST_PILES - 1] = DEEPEST + 1;
+    check("a depth in the last pile comes before it", is_refused(scored_set(MOST_PILES * DEEPEST + 1, lengths, MOST_PILES, true, 2), 4));
+    check("and before lengths that do not add up", is_refused(scored_set(3, lengths, MOST_PILES, true, 2), 4));
+    check("a setting comes before that", is_refused(scored_set(3, lengths, MOST_PILES, false, 0), 1));
+    check("and 65 piles before a setting", is_refused(scored_set(3, lengths, MOST_PILES + 1, false, 0), 12));
+    for (i = 0; i <= MOST_PILES; i++) lengths[i] = 0xffffffff;
+    check("lengths as large as they go", is_refused(scored_set(3, lengths, MOST_PILES, true, 2), 4));
+    for (i = 0; i <= MOST_PILES; i++) lengths[i] = 0;
+    check("64 empty piles score nothing", same(by_members(0, lengths, MOST_PILES, 2), scored_set(0, lengths, MOST_PILES, true, 2)));
+    check("65 are refused", is_refused(scored_set(0, lengths, MOST_PILES + 1, true, 2), 12));
+    check("no piles score nothing", same(by_members(0, NULL, 0, 2), scored_set(0, NULL, 0, true, 2)));
+    check("words and no piles are refused", is_refused(scored_set(1, NULL, 0, true, 2), 3));
+}
+
 int main(void) {
     tables();
     kernels();
@@ -340,6 +423,7 @@ int main(void) {
     peaks();
     blanks();
     operations();
+    sets();
     printf("%d right, %d wrong\n", right, wrong);
     return wrong != 0;
 }

@@ -10,13 +10,14 @@
  * Doubles. The part assumes the floating-point environment that a program starts with: rounding to nearest, and no flushing of subnormal numbers to zero. A
  * program that is linked with -Ofast or -ffast-math may start in another, in which subnormal cells are lost.
  *
- * Answers. 0 is success. 1 to 11 are document 01's refusals; a refused call writes nothing. docs/MAKERS.md says what to do about each:
+ * Answers. 0 is success. 1 to 11 are document 01's refusals, 12 is document 02's; a refused call writes nothing. docs/MAKERS.md says what to do about each:
  *   1 a setting, or a position given to scoring, outside its range     7 a position that is not on the contig
  *   2 a kernel buffer or a table that is too short                     8 a probability that is not in 0.0 to 1.0
- *   3 a word that is no observation; an unknown CIGAR operation        9 a position that is not the one after the last
+ *   3 a word that is no observation; lengths that do not add up to     9 a position that is not the one after the last
+ *     the run; an unknown CIGAR operation
  *   4 a pile of more than 16,384 words                                10 too few cells
  *   5 a record that is broken, or a kernel that is not 2F + 1 long    11 a region size of 0
- *   6 a locus of another contig
+ *   6 a locus of another contig                                       12 a set of more than 64 piles
  */
 #ifndef REGION_PICKER_H
 #define REGION_PICKER_H
@@ -114,6 +115,17 @@ uint32_t region_picker_score(uint32_t position, const uint32_t *pile, size_t pil
                              size_t priors_length, uint8_t min_base_quality_score, uint8_t sample_ploidy, double snp_heterozygosity,
                              double heterozygosity_standard_deviation, uint8_t ref_model_deletion_qual, double active_region_alt_multiplier,
                              bool flow_based_reference_model, double activity[2], uint32_t evidence[2]);
+
+/* Scores a position that was read as several samples, as separate pools are: `words` is one run of all their words, and `lengths` says how many of them each pile has,
+ * in the order in which the piles stand; an empty pile has length 0. Settings, tables and what is written are those of region_picker_score. Empty piles are passed over. With none
+ * left the answer is 0.0, 0.0 and plain; with one left it is what region_picker_score answers for that pile; with more the probability is that of any sample being active, 1 less the product
+ * over the piles, in their order, of 1 less what each scores alone, the original probability is 0.0, and the clip mean runs on from pile to pile. A pile whose words are all
+ * skipped is not empty. At most 64 piles, empty ones counted, of at most 16,384 words each. Refuses 12, then 1, 4 for any length, 3 for lengths that do not add up to words_length, and 3 for
+ * a word. */
+uint32_t region_picker_score_set(uint32_t position, const uint32_t *words, size_t words_length, const uint32_t *lengths, size_t lengths_length,
+                                 const double *table, size_t table_length, const double *priors, size_t priors_length, uint8_t min_base_quality_score,
+                                 uint8_t sample_ploidy, double snp_heterozygosity, double heterozygosity_standard_deviation, uint8_t ref_model_deletion_qual,
+                                 double active_region_alt_multiplier, bool flow_based_reference_model, double activity[2], uint32_t evidence[2]);
 
 /* Counts the soft-clipped bases of a quality above 28 along a read: CIGAR words as BAM stores them, and a quality for each base; 255, SAM's byte for none, is not
  * above 28. Refuses 3. */

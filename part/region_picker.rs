@@ -85,4 +85,24 @@ extern "C" {
         activity: *mut f64,
         evidence: *mut u32,
     ) -> u32;
+    pub fn region_picker_score_set(
+        position: u32,
+        words: *const u32,
+        words_length: usize,
+        lengths: *const u32,
+        lengths_length: usize,
+        table: *const f64,
+        table_length: usize,
+        priors: *const f64,
+        priors_length: usize,
+        min_qual: u8,
+        ploidy: u8,
+        heterozygosity: f64,
+        deviation: f64,
+        deletion_qual: u8,
+        alt_multiplier: f64,
+        flow: bool,
+        activity: *mut f64,
+        evidence: *mut u32,
+    ) -> u32;
 }

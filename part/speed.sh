@@ -30,7 +30,7 @@ fi
 instructions() {
     valgrind --tool=callgrind --callgrind-out-file=/dev/null "$speed" count "$@" 2>&1 | sed -n 's/^==[0-9]*== Collected : //p'
 }
-for row in 1 10; do
+for row in 1 14; do
     for side in original part; do
         few=$(instructions "$row" "$side" 1000)
         many=$(instructions "$row" "$side" 3000)

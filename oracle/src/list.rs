@@ -23,6 +23,7 @@ pub enum Function {
     Region = 17,
     Sheet = 18,
     CellsNeeded = 19,
+    ScoreSet = 20,
 }
 
 /// One answer: the function's number, how many words follow, and the words of the arguments and then of the results.
@@ -49,6 +50,13 @@ impl Answer {
     pub fn doubles(self, xs: &[f64]) -> Self {
         let counted = self.word(xs.len() as u64);
         counted.elements(xs)
+    }
+
+    /// The same of whole numbers.
+    pub fn numbers(mut self, xs: &[u32]) -> Self {
+        self.words.push(xs.len() as u64);
+        self.words.extend(xs.iter().map(|&x| u64::from(x)));
+        self
     }
 
     /// The elements of a slice whose length is known.

@@ -20,11 +20,13 @@ mod hq_soft_clip;
 mod list;
 mod makings;
 mod minimal_genotyping;
+mod multi_sample;
 mod random;
 mod refusals;
 mod region;
 mod runs;
 mod scores;
+mod sets;
 mod stand_ins;
 mod streams;
 
@@ -58,7 +60,7 @@ fn main() {
     }
     let number = |i: usize| words.get(i).and_then(|w| w.parse::<u64>().ok());
     let (Some(name), Some(seed), Some(count)) = (words.first(), number(1), number(2)) else {
-        eprintln!("usage: oracle elementary|kernel|runs|calls|clips|scores|sums|cells|streams|sheets SEED COUNT > FILE, oracle region < WORDS, oracle sheet < WORDS, oracle compare SEED COUNT PROGRAM [SHEET], oracle peaks SEED COUNT PROGRAM, oracle each SEED COUNT PROGRAM, or oracle panel > FILE");
+        eprintln!("usage: oracle elementary|kernel|runs|calls|clips|scores|sets|sums|cells|streams|sheets SEED COUNT > FILE, oracle region < WORDS, oracle sheet < WORDS, oracle compare SEED COUNT PROGRAM [SHEET], oracle peaks SEED COUNT PROGRAM, oracle each SEED COUNT PROGRAM, or oracle panel > FILE");
         std::process::exit(2);
     };
     let mut out = std::io::BufWriter::new(std::io::stdout().lock());
@@ -70,6 +72,7 @@ fn main() {
         "clips" => clips::clip_list(seed, count, &mut out),
         "scores" => scores::score_list(seed, count, &mut out),
         "sums" => scores::sum_list(seed, count, &mut out),
+        "sets" => sets::set_list(seed, count, &mut out),
         "cells" => cells::cell_list(seed, count, &mut out),
         "streams" => streams::stream_list(seed, count, &mut out),
         "sheets" => streams::sheet_list(seed, count, &mut out),

@@ -5,6 +5,7 @@ pub const SETTING: u64 = 1;
 pub const KERNEL_BUFFER: u64 = 2;
 pub const WORD: u64 = 3;
 pub const DEPTH: u64 = 4;
+pub const PILES: u64 = 12;
 
 pub const MAX_POSITION: u32 = 1_073_741_823;
 
@@ -75,22 +76,55 @@ impl Scoring {
     };
 }
 
+impl Scoring {
+    /// Whether the settings and the position are in their ranges.
+    fn in_range(&self, position: u32) -> bool {
+        (1..=254).contains(&self.min_qual)
+            && (1..=254).contains(&self.deletion_qual)
+            && (1..=100).contains(&self.ploidy)
+            && (0.000001..=0.5).contains(&self.heterozygosity)
+            && (0.0001..=1.0).contains(&self.deviation)
+            && (1.0 / 1024.0..=1024.0).contains(&self.alt_multiplier)
+            && (1..=MAX_POSITION).contains(&position)
+    }
+}
+
+const MAX_DEPTH: u32 = 16_384;
+const MAX_PILES: usize = 64;
+
+fn is_no_observation(w: &u32) -> bool {
+    w >> 30 != 1
+}
+
 /// The number of the refusal of a score, or 0: scoring 1, 4, 3.
 pub fn scoring_refusal(s: &Scoring, position: u32, pile: &[u32]) -> u64 {
-    let in_range = (1..=254).contains(&s.min_qual)
-        && (1..=254).contains(&s.deletion_qual)
-        && (1..=100).contains(&s.ploidy)
-        && (0.000001..=0.5).contains(&s.heterozygosity)
-        && (0.0001..=1.0).contains(&s.deviation)
-        && (1.0 / 1024.0..=1024.0).contains(&s.alt_multiplier)
-        && (1..=MAX_POSITION).contains(&position);
-    if !in_range {
+    if !s.in_range(position) {
         return SETTING;
     }
-    if pile.len() > 16_384 {
+    if pile.len() > MAX_DEPTH as usize {
         return DEPTH;
     }
-    if pile.iter().any(|w| w >> 30 != 1) {
+    if pile.iter().any(is_no_observation) {
+        return WORD;
+    }
+    0
+}
+
+/// The number of the refusal of a set's score, or 0 (document 02, U6): 12, then 1, 4 in any pile, 3 for the lengths, 3 in any pile.
+pub fn set_refusal(s: &Scoring, position: u32, words: &[u32], lengths: &[u32]) -> u64 {
+    if lengths.len() > MAX_PILES {
+        return PILES;
+    }
+    if !s.in_range(position) {
+        return SETTING;
+    }
+    if lengths.iter().any(|&n| n > MAX_DEPTH) {
+        return DEPTH;
+    }
+    if lengths.iter().map(|&n| u128::from(n)).sum::<u128>() != words.len() as u128 {
+        return WORD;
+    }
+    if words.iter().any(is_no_observation) {
         return WORD;
     }
     0

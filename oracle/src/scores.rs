@@ -13,8 +13,11 @@ use std::io::Write;
 
 const DEFAULT: Scoring = Scoring::DEFAULT;
 
+/// The contig of every score.
+pub const CONTIG: u32 = 7;
+
 impl Scoring {
-    fn params(&self) -> HaplotypeCallerActivityScoringParams {
+    pub fn params(&self) -> HaplotypeCallerActivityScoringParams {
         HaplotypeCallerActivityScoringParams {
             min_base_quality_score: self.min_qual,
             sample_ploidy: Ploidy::new_unchecked(self.ploidy),
@@ -29,11 +32,11 @@ impl Scoring {
 }
 
 /// An observation word.
-fn word(qual: u64, deletion: bool, alt: bool, near_clip: bool, clips: u64) -> u32 {
+pub fn word(qual: u64, deletion: bool, alt: bool, near_clip: bool, clips: u64) -> u32 {
     (1 << 30 | qual << 22 | u64::from(deletion) << 21 | u64::from(alt) << 20 | u64::from(near_clip) << 19 | clips) as u32
 }
 
-fn observation(w: u32) -> PileupObservation {
+pub fn observation(w: u32) -> PileupObservation {
     PileupObservation {
         read_base: b'A',
         qual: (w >> 22 & 255) as u8,
@@ -41,6 +44,14 @@ fn observation(w: u32) -> PileupObservation {
         is_alt: w >> 20 & 1 == 1,
         is_next_to_soft_clip: w >> 19 & 1 == 1,
         read_hq_soft_clip_base_count: w & 0x7_ffff,
+    }
+}
+
+/// The evidence as a clip count, where it is not plain.
+pub fn clips_of(evidence: &ActivityEvidence) -> Option<u32> {
+    match evidence {
+        ActivityEvidence::Plain => None,
+        ActivityEvidence::HighQualitySoftClips { clip_bases } => Some(*clip_bases),
     }
 }
 
@@ -53,18 +64,14 @@ pub fn score(s: &Scoring, contig: u32, position: u32, pile: &[u32]) -> State {
         pos: position,
         probability: state.active_prob,
         original: state.original_active_prob,
-        clips: match state.evidence {
-            ActivityEvidence::Plain => None,
-            ActivityEvidence::HighQualitySoftClips { clip_bases } => Some(clip_bases),
-        },
+        clips: clips_of(&state.evidence),
     }
 }
 
-/// The answer of a pile of `depth` words, of which word i is words[i % k].
-fn score_answer(s: Scoring, position: u32, depth: usize, words: &[u32], out: &mut impl Write) {
-    let contig = 7;
-    let mut answer = Answer::of(Function::Score)
-        .word(contig.into())
+/// An answer's first words: the contig, the position and the settings.
+pub fn asked(function: Function, s: &Scoring, position: u32) -> Answer {
+    Answer::of(function)
+        .word(CONTIG.into())
         .word(position.into())
         .word(s.min_qual.into())
         .word(s.ploidy.into())
@@ -73,19 +80,28 @@ fn score_answer(s: Scoring, position: u32, depth: usize, words: &[u32], out: &mu
         .word(s.deletion_qual.into())
         .double(s.alt_multiplier)
         .word(s.flow.into())
-        .word(depth as u64)
-        .word(words.len() as u64);
-    for &w in words {
-        answer = answer.word(w.into());
+}
+
+/// A run of `depth` words, of which word i is words[i % k]: its words in an answer, and the run.
+pub fn run_of(answer: Answer, depth: usize, words: &[u32]) -> (Answer, Vec<u32>) {
+    let answer = answer.word(depth as u64).numbers(words);
+    (answer, (0..depth).map(|i| words[i % words.len()]).collect())
+}
+
+/// An answer's last words: the refusal's number, or 0 and the state.
+pub fn told(answer: Answer, refusal: u64, state: impl FnOnce() -> State) -> Answer {
+    let answer = answer.word(refusal);
+    if refusal != 0 {
+        return answer;
     }
-    let pile: Vec<u32> = (0..depth).map(|i| words[i % words.len()]).collect();
-    let refusal = scoring_refusal(&s, position, &pile);
-    answer = answer.word(refusal);
-    if refusal == 0 {
-        let state = score(&s, contig, position, &pile);
-        answer = answer.double(state.probability).double(state.original).word(state.clips.map_or(0, |n| u64::from(n) + 1));
-    }
-    answer.write(out);
+    let state = state();
+    answer.double(state.probability).double(state.original).word(state.clips.map_or(0, |n| u64::from(n) + 1))
+}
+
+/// The answer of a pile of `depth` words, of which word i is words[i % k].
+fn score_answer(s: Scoring, position: u32, depth: usize, words: &[u32], out: &mut impl Write) {
+    let (answer, pile) = run_of(asked(Function::Score, &s, position), depth, words);
+    told(answer, scoring_refusal(&s, position, &pile), || score(&s, CONTIG, position, &pile)).write(out);
 }
 
 fn next_up(x: f64) -> f64 {
@@ -97,7 +113,7 @@ fn next_down(x: f64) -> f64 {
 }
 
 /// Settings at both ends of each range and one step outside, NaN and infinite ones.
-fn edge_settings() -> Vec<Scoring> {
+pub fn edge_settings() -> Vec<Scoring> {
     let mut all = Vec::new();
     for min_qual in [0, 1, 254, 255] {
         all.push(Scoring { min_qual, ..DEFAULT });
@@ -175,7 +191,7 @@ fn edge_scores(out: &mut impl Write) {
 }
 
 /// Settings in their ranges, the defaults for the most part.
-fn some_settings(r: &mut Random) -> Scoring {
+pub fn some_settings(r: &mut Random) -> Scoring {
     let mut s = DEFAULT;
     if r.chance(2) {
         s.ploidy = r.pick(&[1, 2, 3, 4, 10]);

@@ -20,7 +20,7 @@ pub(crate) fn clip_count(words: &[u64]) -> bool {
 }
 
 // The 32-bit numbers from word `at` on.
-fn numbers_from(words: &[u64], at: usize) -> [u32; 1024] {
+pub(crate) fn numbers_from(words: &[u64], at: usize) -> [u32; 1024] {
     let mut into = [0u32; 1024];
     let mut i = 0usize;
     while i < 1024 {

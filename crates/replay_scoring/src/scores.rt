@@ -10,8 +10,7 @@ use answer_list::word_at;
 use genome::GenomePosition;
 use genome::Ploidy;
 use genotype_likelihoods::HaplotypeCallerActivityScoringParams;
-ghost use Prim.Native.Nat.{_+_, _≤_};
-ghost use Rattle.activity_scoring.specs.Score.{maxDepth};
+ghost use Prim.Native.Nat.{_≤_};
 
 // contig, position, min base quality, ploidy, heterozygosity, deviation, deletion quality, alt multiplier, flow, depth,
 // k, words[k]; the refusal's number or 0, and where 0 probability, original probability and evidence. Word i of the pile
@@ -19,7 +18,7 @@ ghost use Rattle.activity_scoring.specs.Score.{maxDepth};
 pub(crate) fn score(words: &[u64]) -> bool {
     let n = depth_at(words, 9);
     let k = length_at(words, 10);
-    let pile = pile_from(words, 11, k, n);
+    let pile = run_from(words, 11, k, n);
     score_in(words, &pile[..n], 11 + k)
 }
 
@@ -30,6 +29,11 @@ fn score_in(words: &[u64], pile: &[u32], results: usize) -> bool {
         pile,
         params_at(words),
     );
+    scored_at(words, results, scored)
+}
+
+// Whether the results from a word on are those of a score.
+pub(crate) fn scored_at(words: &[u64], results: usize, scored: Scored) -> bool {
     let c = Compared::from(results);
     match scored {
         Scored::Score(s) => state(words, c.word(words, 0), s).whole(words),
@@ -59,7 +63,8 @@ fn evidence(e: ActivityEvidence) -> u64 {
     }
 }
 
-fn params_at(words: &[u64]) -> HaplotypeCallerActivityScoringParams {
+// The settings of scoring, from word 2 on.
+pub(crate) fn params_at(words: &[u64]) -> HaplotypeCallerActivityScoringParams {
     HaplotypeCallerActivityScoringParams {
         min_base_quality_score: byte_at(words, 2),
         sample_ploidy: Ploidy(byte_at(words, 3)),
@@ -75,33 +80,33 @@ fn byte_at(words: &[u64], i: usize) -> u8 {
     (word_at(words, i) % 256) as u8
 }
 
-// Room for a pile: one word more than the deepest.
-const PILE: usize = 16385;
+// Room for a run of words: three times the deepest pile, and more.
+pub(crate) const RUN: usize = 65536;
 
-// The depth in word i, cut to the room that there is: one more than the deepest pile.
-fn depth_at(words: &[u64], i: usize) -> usize
-    ensures { λ r. ⌜ r ≤ maxDepth + 1 ⌝ }
+// The depth in word i, cut to the room that there is.
+pub(crate) fn depth_at(words: &[u64], i: usize) -> usize
+    ensures { λ r. ⌜ r ≤ 65536 ⌝ }
 {
     let n = word_at(words, i);
-    if n <= PILE as u64 {
+    if n <= RUN as u64 {
         return n as usize;
     }
-    PILE
+    RUN
 }
 
-// The first n words of a pile that goes round the k words from word `at` on.
-fn pile_from(words: &[u64], at: usize, k: usize, n: usize) -> [u32; PILE]
-    requires { ⌜ n ≤ maxDepth + 1 ⌝ }
+// The first n words of a run that goes round the k words from word `at` on.
+pub(crate) fn run_from(words: &[u64], at: usize, k: usize, n: usize) -> [u32; RUN]
+    requires { ⌜ n ≤ 65536 ⌝ }
 {
-    let mut pile = [0u32; PILE];
+    let mut run = [0u32; RUN];
     let mut i = 0;
     let mut j = 0;
     while i < n {
-        pile[i] = number_at(words, std::num::wrapping_add_usize(at, j));
+        run[i] = number_at(words, std::num::wrapping_add_usize(at, j));
         j = next(j, k);
         i += 1;
     }
-    pile
+    run
 }
 
 // The place after j in a round of k.

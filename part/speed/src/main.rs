@@ -15,6 +15,8 @@ mod activity_scoring;
 mod hq_soft_clip;
 #[path = "../../../oracle/src/minimal_genotyping.rs"]
 mod minimal_genotyping;
+#[path = "../../../oracle/src/multi_sample.rs"]
+mod multi_sample;
 mod original;
 mod part;
 #[path = "../../region_picker.rs"]
@@ -107,6 +109,37 @@ fn scoring(depth: usize, active: bool, ploidy: u8) -> Case {
     }
 }
 
+/// Sets of piles, scored together.
+fn sets(count: usize, depth: usize, active: bool, ploidy: u8) -> Case {
+    let kind = if active { "active" } else { "quiet" };
+    let mut random = Random::from_seed((count * depth) as u64 + u64::from(ploidy));
+    let sets: Vec<Vec<Vec<u32>>> = (0..64).map(|_| (0..count).map(|_| pile(&mut random, depth, active)).collect()).collect();
+    let samples: Vec<Vec<Vec<_>>> = sets.iter().map(|set| set.iter().map(|p| p.iter().map(|&w| original::observation(w)).collect()).collect()).collect();
+    let runs: Vec<Vec<u32>> = sets.iter().map(|set| set.concat()).collect();
+    let lengths = vec![depth as u32; count];
+    let params = original::params(ploidy);
+    let scorer = part::Scorer::new(ploidy);
+    for (words, piles) in runs.iter().zip(&samples) {
+        let (a, b) = (original::score_set(piles, &params), scorer.score_set(1, words, &lengths));
+        assert_eq!((a.0.to_bits(), 0.0f64.to_bits()), (b.0.to_bits(), b.1.to_bits()));
+    }
+    Case {
+        name: format!("scoring a set, {count} piles of depth {depth}, {kind}, ploidy {ploidy}"),
+        least: 10.0,
+        turns: 60_000 / (count * depth) as u32,
+        original: Box::new(move |n| {
+            for i in 0..n {
+                black_box(original::score_set(&samples[i as usize % 64], &params));
+            }
+        }),
+        part: Box::new(move |n| {
+            for i in 0..n {
+                black_box(scorer.score_set(1, &runs[i as usize % 64], &lengths));
+            }
+        }),
+    }
+}
+
 /// n loci added in their order, and a pop after each until none is ready.
 fn feed(n: u32, mut add: impl FnMut(u32), mut pop: impl FnMut() -> Option<(u32, u32, bool)>) -> u64 {
     let mut sum = 0;
@@ -154,6 +187,11 @@ fn cases() -> Vec<Box<dyn Fn() -> Case>> {
             for ploidy in [2, 10] {
                 all.push(Box::new(move || scoring(depth, is_active, ploidy)));
             }
+        }
+    }
+    for is_active in [false, true] {
+        for ploidy in [2, 10] {
+            all.push(Box::new(move || sets(8, 30, is_active, ploidy)));
         }
     }
     all.push(Box::new(|| profile("F 50, quiet", 0.0, |_| 0.0, None)));

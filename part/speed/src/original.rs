@@ -2,6 +2,7 @@
 use crate::activity_profile::{ActivityEvidence, ActivityProfileState, BandPassActivityProfile, BandPassActivityProfileParams, PositiveSigma};
 use crate::activity_scoring::{haplotype_caller_activity_profile_state_single_sample, HaplotypeCallerActivityScoringParams, PileupObservation};
 use crate::bio_ids::Ploidy;
+use crate::multi_sample::any_sample;
 use std::sync::Arc;
 
 pub fn observation(w: u32) -> PileupObservation {
@@ -21,6 +22,12 @@ pub fn params(ploidy: u8) -> HaplotypeCallerActivityScoringParams {
 
 pub fn score(pos: u32, pile: &[PileupObservation], params: &HaplotypeCallerActivityScoringParams) -> ActivityProfileState {
     haplotype_caller_activity_profile_state_single_sample("0", pos.into(), pile, params)
+}
+
+/// The probability that any of the samples is active, and the evidence.
+pub fn score_set(samples: &[Vec<PileupObservation>], params: &HaplotypeCallerActivityScoringParams) -> (f64, ActivityEvidence) {
+    let slices: Vec<&[PileupObservation]> = samples.iter().map(Vec::as_slice).collect();
+    any_sample(&slices, params)
 }
 
 pub struct Profile {

@@ -2,7 +2,7 @@
 
 use crate::region_picker::{
     region_picker_add, region_picker_fill_tables, region_picker_kernel, region_picker_make, region_picker_pop, region_picker_priors_length,
-    region_picker_score, region_picker_table_length,
+    region_picker_score, region_picker_score_set, region_picker_table_length,
 };
 
 /// Scoring with the Rust's defaults and a ploidy, its tables filled.
@@ -30,6 +30,36 @@ impl Scorer {
                 pos,
                 pile.as_ptr(),
                 pile.len(),
+                self.table.as_ptr(),
+                self.table.len(),
+                self.priors.as_ptr(),
+                self.priors.len(),
+                10,
+                self.ploidy,
+                1e-3,
+                0.01,
+                30,
+                1.0,
+                false,
+                activity.as_mut_ptr(),
+                evidence.as_mut_ptr(),
+            )
+        };
+        assert_eq!(refusal, 0);
+        (activity[0], activity[1], (evidence[0] == 1).then_some(evidence[1]))
+    }
+
+    /// The same of a set of piles.
+    pub fn score_set(&self, pos: u32, words: &[u32], lengths: &[u32]) -> (f64, f64, Option<u32>) {
+        let mut activity = [0.0; 2];
+        let mut evidence = [0; 2];
+        let refusal = unsafe {
+            region_picker_score_set(
+                pos,
+                words.as_ptr(),
+                words.len(),
+                lengths.as_ptr(),
+                lengths.len(),
                 self.table.as_ptr(),
                 self.table.len(),
                 self.priors.as_ptr(),

@@ -1,5 +1,6 @@
 -- `replay` meets its contract: an arm for each function here, and false for any other number.
 use mathlib.Core.Bool.{false≢true}
+use mathlib.Core.Logic.{inl, inr}
 use borrow.Author.Needs.{needs}
 use Rattle.replay_scoring.proofs.replay.Statement.{statement}
 use Rattle.replay_scoring.proofs.replay.Tie as tie
@@ -16,20 +17,26 @@ pair-sum-requires c κs = search needs
 log10-sum-requires : tie.Need-log10-sum-requires
 log10-sum-requires c κs = search needs
 
+score-set-requires : tie.Need-score-set-requires
+score-set-requires c κs = search needs
+
 returns : tie.Need-returns
-returns c = search needs
+returns c = λ e. inl (search needs)
 
 returns-2 : tie.Need-returns-2
-returns-2 c = search needs
+returns-2 c = λ e. inl (search needs)
 
 returns-3 : tie.Need-returns-3
-returns-3 c = search needs
+returns-3 c = λ e. inl (search needs)
 
 returns-4 : tie.Need-returns-4
-returns-4 c = search needs
+returns-4 c = λ e. inl (search needs)
 
 returns-5 : tie.Need-returns-5
-returns-5 c = λ e. absurd (false≢true e)
+returns-5 c = λ e. inr (search needs)
+
+returns-6 : tie.Need-returns-6
+returns-6 c = λ e. absurd (false≢true e)
 
 pub replay-spec : {M : Type 1} → statement M
 replay-spec =
@@ -39,8 +46,10 @@ replay-spec =
     score-requires
     pair-sum-requires
     log10-sum-requires
+    score-set-requires
     returns
     returns-2
     returns-3
     returns-4
-    returns-5)
+    returns-5
+    returns-6)

@@ -12,8 +12,8 @@ depth-at-requires c κs = search needs
 length-at-requires : tie.Need-length-at-requires
 length-at-requires c κs = search needs
 
-pile-from-requires : tie.Need-pile-from-requires
-pile-from-requires c κs = search needs
+run-from-requires : tie.Need-run-from-requires
+run-from-requires c κs = search needs
 
 array-share-prefix-pile : tie.Need-array-share-prefix-pile
 array-share-prefix-pile c = search needs
@@ -36,7 +36,7 @@ score-spec =
     (tie.spec
     depth-at-requires
     length-at-requires
-    pile-from-requires
+    run-from-requires
     array-share-prefix-pile
     slice-aggregate-score-in
     add-score-in

@@ -1,14 +1,14 @@
--- `pile_from` is safe: each index is below n.
+-- `run_from` is safe: each index is below n.
 use Prim.Native.Nat.{_-_, _≤_}
 use borrow.Author.Needs.{needs}
-use Rattle.replay_scoring.proofs.scores.pile_from.Statement.{statement}
-use Rattle.replay_scoring.proofs.scores.pile_from.Tie as tie
+use Rattle.replay_scoring.proofs.scores.run_from.Statement.{statement}
+use Rattle.replay_scoring.proofs.scores.run_from.Tie as tie
 
 abbrev Inv-loop : tie.InvT-loop
-Inv-loop words at k n pile₀ i₀ j₀ pile i j = i ≤ n
+Inv-loop words at k n run₀ i₀ j₀ run i j = i ≤ n
 
 abbrev μ-loop : tie.MeasureT-loop
-μ-loop words at k n pile₀ i₀ j₀ pile i j = n - i
+μ-loop words at k n run₀ i₀ j₀ run i j = n - i
 
 loop-holds : tie.Need-loop-holds Inv-loop μ-loop
 loop-holds c = search needs
@@ -19,11 +19,11 @@ wrapping-add-usize-requires c κs = search needs
 number-at-requires : tie.Need-number-at-requires Inv-loop μ-loop
 number-at-requires c κs = search needs
 
-mul-pile : tie.Need-mul-pile Inv-loop μ-loop
-mul-pile c = search needs
+mul-run : tie.Need-mul-run Inv-loop μ-loop
+mul-run c = search needs
 
-array-write-pile : tie.Need-array-write-pile Inv-loop μ-loop
-array-write-pile c = search needs
+array-write-run : tie.Need-array-write-run Inv-loop μ-loop
+array-write-run c = search needs
 
 next-requires : tie.Need-next-requires Inv-loop μ-loop
 next-requires c κs = search needs
@@ -40,8 +40,8 @@ loop-again c = search needs
 returns : tie.Need-returns Inv-loop μ-loop
 returns c = search needs
 
-pub pile-from-spec : {M : Type 1} → statement M
-pile-from-spec =
+pub run-from-spec : {M : Type 1} → statement M
+run-from-spec =
     tie.close
     (tie.spec
     Inv-loop
@@ -49,8 +49,8 @@ pile-from-spec =
     loop-holds
     wrapping-add-usize-requires
     number-at-requires
-    mul-pile
-    array-write-pile
+    mul-run
+    array-write-run
     next-requires
     add-i
     loop-less
