@@ -337,10 +337,12 @@ static void operations(void) {
 
 static uint32_t run[MOST_PILES * DEEPEST + 1];
 
-/* the score of a set, by the tables or without; what no call writes is all ones */
+/* the score of a set, by the tables or without; what a refused call leaves is -7.5, -7.5, 7 and 7 */
 static score scored_set(size_t n, const uint32_t *lengths, size_t m, bool by_tables, uint8_t ploidy) {
     score s;
-    memset(&s, 0xff, sizeof s);
+    memset(&s, 0, sizeof s);
+    s.activity[0] = s.activity[1] = -7.5;
+    s.evidence[0] = s.evidence[1] = 7;
     s.answer = region_picker_score_set(1, run, n, lengths, m, table, by_tables ? region_picker_table_length(ploidy) : 0, priors,
                                        by_tables ? region_picker_priors_length(ploidy) : 0, 10, ploidy, 0.001, 0.01, 30, 1.0, false, s.activity, s.evidence);
     return s;
@@ -369,11 +371,9 @@ static score by_members(size_t n, const uint32_t *lengths, size_t m, uint8_t plo
     return s;
 }
 
+/* whether a call was refused with this number, and wrote nothing */
 static bool is_refused(score s, uint32_t number) {
-    score untouched;
-    memset(&untouched, 0xff, sizeof untouched);
-    untouched.answer = number;
-    return same(s, untouched);
+    return s.answer == number && s.activity[0] == -7.5 && s.activity[1] == -7.5 && s.evidence[0] == 7 && s.evidence[1] == 7;
 }
 
 /* Sets of piles: made of their members' scores, by the tables and without, up to the largest, and refused in their order. */

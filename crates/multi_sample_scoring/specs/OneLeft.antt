@@ -59,5 +59,5 @@ pub one-left : (contig : ℕ) (p : GenomePosition) (words lengths : List ℕ) (s
     → countLeft lengths ≤ 1 → setScoreOf contig p words lengths s ≡ scoreOf contig p words s
 unfolding setScoreWith scoreWith activityOf
 one-left contig p words lengths s few e h =
-    rw (le-ltb maxPiles (length lengths) few, eq-eqb (total lengths) (length words) e, deep-is false lengths h, e)
+    rw (le-ltb maxPiles (length lengths) few, eq-eqb (total lengths) (length words) e, deep-is false lengths (omega (arith, h)), e)
     (ap (λ (x : ActivityProfileState). scoreWith x p words s) (few-left (λ (pile : List ℕ). roundedOf pile s) (fromRounded s) contig p s words lengths e (omega arith)))

@@ -1,14 +1,16 @@
 -- P1 to P15 of document 01, and examples of document 02, against the definitions. Assumes nothing.
 use mathlib.Core.Path.{_≡_, refl}
 use mathlib.Core.Bool.{Bool, true, false, cond}
-use mathlib.Core.List.{List, [], _∷_, map}
+use mathlib.Core.List.{List, [], _∷_, _++_, map}
 use Prim.Native.Nat.{ℕ, _+_, _*_, _<_}
 use native.Mathlib.Omega.{arith}
-use lib.ListN.{length, replicate}
-use lib.Ieee.{Float, binary64, nan, neg, round, ofBits, toBits, ofInt, toUnsigned, add, sub, div, lt, le, ne}
+use lib.ListN.{length, getD, replicate}
+use lib.Ieee.{Float, binary64, nan, neg, round, ofBits, toBits, ofInt, toUnsigned, add, sub, mul, div, lt, le, ne}
 use Rattle.lists.specs.Each.{each, upTo}
 use Rattle.lists.specs.Loops.{along, down, firstAt, foldl}
+use Rattle.lists.specs.Without.{without}
 use Rattle.activity_profile.specs.declared.BandPassActivityProfile.{BandPassActivityProfile}
+use Rattle.activity_profile.specs.declared.ActivityProfileState.{ActivityProfileState}
 use Rattle.activity_profile.specs.declared.ActivityEvidence.{ActivityEvidence}
 use Rattle.activity_profile.specs.declared.ActivityEvidence.the-variants.{Plain, HighQualitySoftClips}
 use Rattle.activity_profile.specs.Profile.{settingsInRange, placed, broken}
@@ -18,6 +20,7 @@ use Rattle.activity_profile.specs.Peak.{leads, peakIndex}
 use Rattle.activity_profile.specs.Run.{Lent, step, after}
 use Rattle.activity_profile.specs.Cells.{cellsNeeded}
 use Rattle.activity_profile.specs.Maker.{Sizes, plainAt, zerosFrom}
+use Rattle.genome.specs.declared.GenomePosition.{GenomePosition}
 use Rattle.genome.specs.Refusals.{Outcome, refused, answered}
 use Rattle.genotype_likelihoods.specs.declared.HaplotypeCallerActivityScoringParams.{HaplotypeCallerActivityScoringParams}
 use Rattle.genotype_likelihoods.specs.Settings.{defaults}
@@ -25,7 +28,9 @@ use Rattle.genotype_likelihoods.specs.Observation.{effectiveQual, lacksQuality,
 use Rattle.genotype_likelihoods.specs.Likelihoods.{counted}
 use Rattle.genotype_posterior.specs.Phred.{minF, plOf}
 use Rattle.activity_scoring.specs.Mean.{withWord, meanOf}
-use Rattle.activity_scoring.specs.Score.{evidenceOf}
+use Rattle.activity_scoring.specs.declared.Activity.{Activity}
+use Rattle.activity_scoring.specs.Score.{evidenceOf, stateWith}
+use Rattle.multi_sample_scoring.specs.Sets.{piles, total, pilesLeft, clamped, anyNonRef, stratifiedMean, setStateWith, setScoreWith}
 use Rattle.hq_soft_clip.specs.SoftClips.{clipCount, countHigh, byOperation}
 use Rattle.worked_examples.specs.Rows.{Row, same, allRight, rowAt, each-row}
 
@@ -132,8 +137,28 @@ thenClip : ℕ → List ℕ
 unfolding numbered clipCount
 thenClip op = numbered (clipCount ((2 * 16 + op) ∷ (1 * 16 + 4) ∷ []) (40 ∷ 40 ∷ 20 ∷ []))
 
+-- 0 and the refusal's number; or 1, the bits of both probabilities, and the evidence
+scoreTold : Outcome ActivityProfileState → List ℕ
+unfolding evidenceTold
+scoreTold (refused n) = 0 ∷ n ∷ []
+scoreTold (answered x) = 1 ∷ toBits binary64 (x .«active_prob») ∷ toBits binary64 (x .«original_active_prob») ∷ evidenceTold (x .evidence)
+
+-- a set at position 9, in which a pile of n words has a probability of n quarters alone and an original probability of 1.5
+setOf : HaplotypeCallerActivityScoringParams → List ℕ → List ℕ → List ℕ
+unfolding scoreTold round
+setOf s words lengths =
+    let p : GenomePosition = record { 0 = 9 } in
+    let quarters : List ℕ → List Float = λ pile. round binary64 false (length pile) 4 ∷ [] in
+    let activity : List Float → Activity = λ gl. record { probability = getD gl 0 nan; original = tenths 15 } in
+    scoreTold (setScoreWith (setStateWith quarters activity 1 p s (pilesLeft words lengths)) p words lengths s)
+
+-- alt bases next to a clip with these counts
+nearClips : List ℕ → List ℕ
+unfolding word
+nearClips = map (word 30 0 1 1)
+
 pub table : List Row
-unfolding popOf told peakTold peakOf popAnswer tenths hundredths profile superStates kept numbered clipCount thenClip word minimum skippedOf clipsOf evidenceTold evidenceOf meanOf plOf
+unfolding setOf scoreTold nearClips popOf told peakTold peakOf popAnswer tenths hundredths profile superStates kept numbered clipCount thenClip word minimum skippedOf clipsOf evidenceTold evidenceOf meanOf plOf
 table =
     record { number = 1; given = popOf (9 ∷ 5 ∷ 2 ∷ 5 ∷ 9 ∷ []) 2 false; wanted = 3 ∷ 1 ∷ 3 ∷ [] }
     ∷ record { number = 2; given = popOf (9 ∷ 2 ∷ 5 ∷ 2 ∷ 9 ∷ []) 2 false; wanted = 3 ∷ 1 ∷ 4 ∷ [] }
@@ -226,11 +251,26 @@ table =
     ∷ record { number = 205; given = numbered (cellsNeeded 2 1 1 100); wanted = 1 ∷ 5 ∷ [] }
     ∷ record { number = 205; given = oneBehindZeros 5; wanted = 1 ∷ 5 ∷ [] }
     ∷ record { number = 205; given = oneBehindZeros 4; wanted = 0 ∷ 10 ∷ [] }
+    -- U6: piles of 2 words and 1, 1 - (1 - 1/2) (1 - 1/4) is 5/8, the mean of 4, 4 and 11 is 19/3, and the original probability is 0.0
+    ∷ record { number = 206; given = setOf defaults (nearClips (4 ∷ 4 ∷ 11 ∷ [])) (2 ∷ 1 ∷ []); wanted = 1 ∷ 0x3fe4_0000_0000_0000 ∷ 0 ∷ 1 ∷ 6 ∷ [] }
+    -- "One pile left over scores as it does today", and "a set with none left scores 0.0 and is plain"
+    ∷ record { number = 206; given = setOf defaults (nearClips (4 ∷ 4 ∷ 11 ∷ [])) (0 ∷ 3 ∷ 0 ∷ []); wanted = 1 ∷ 0x3fe8_0000_0000_0000 ∷ 0x3ff8_0000_0000_0000 ∷ 1 ∷ 6 ∷ [] }
+    ∷ record { number = 206; given = setOf defaults [] (0 ∷ 0 ∷ []); wanted = 1 ∷ 0 ∷ 0 ∷ 0 ∷ [] }
+    ∷ record { number = 206; given = setOf defaults [] []; wanted = 1 ∷ 0 ∷ 0 ∷ 0 ∷ [] }
+    -- a pile of skipped words is left: 1 - (1 - 1/4) (1 - 1/4) is 7/16
+    ∷ record { number = 206; given = setOf defaults (word 255 0 1 0 0 ∷ word 30 0 1 0 0 ∷ []) (1 ∷ 1 ∷ []); wanted = 1 ∷ 0x3fdc_0000_0000_0000 ∷ 0 ∷ 0 ∷ [] }
+    -- 12, before every other check; then 1, 4, 3 for the lengths, 3 for a word
+    ∷ record { number = 206; given = setOf (minimum 0 false) (nearClips (4 ∷ [])) (replicate 65 0); wanted = 0 ∷ 12 ∷ [] }
+    ∷ record { number = 206; given = setOf (minimum 0 false) (nearClips (4 ∷ [])) (replicate 63 0 ++ 16_385 ∷ []); wanted = 0 ∷ 1 ∷ [] }
+    ∷ record { number = 206; given = setOf defaults (7 ∷ []) (1 ∷ 16_385 ∷ []); wanted = 0 ∷ 4 ∷ [] }
+    ∷ record { number = 206; given = setOf defaults (nearClips (4 ∷ 4 ∷ [])) (2 ∷ 16_384 ∷ []); wanted = 0 ∷ 3 ∷ [] }
+    ∷ record { number = 206; given = setOf defaults (nearClips (4 ∷ 4 ∷ [])) (1 ∷ []); wanted = 0 ∷ 3 ∷ [] }
+    ∷ record { number = 206; given = setOf defaults (word 30 0 1 0 0 ∷ 7 ∷ []) (1 ∷ 1 ∷ []); wanted = 0 ∷ 3 ∷ [] }
     ∷ []
 
 -- the one proof
 pub table-right : allRight table ≡ true
-unfolding table allRight same cellsNeeded oneBehindZeros countTold after step addAnswer addAnswerBy addCells addCellsBy popCells popCellsBy addVerdict addedProfile firstLocus highest needed popOf told peakTold peakOf tenths hundredths profile popAnswer popAnswerBy popVerdict turn kept broken settingsInRange placed qualifies beats replaces better bestCutSite orMost sizeOf popSize regionWith regionOf leads peakIndex along rest superStates numbered clipCount countHigh byOperation thenClip word minimum skippedOf clipsOf evidenceTold effectiveQual lacksQuality skips counted evidenceOf meanOf withWord plOf minF toUnsigned ofInt add sub div ne foldl down firstAt each upTo lt le neg ofBits toBits round
+unfolding table allRight same setOf scoreTold nearClips piles without total setStateWith anyNonRef clamped stratifiedMean setScoreWith stateWith mul Rattle.genotype_likelihoods.specs.Settings.settingsInRange cellsNeeded oneBehindZeros countTold after step addAnswer addAnswerBy addCells addCellsBy popCells popCellsBy addVerdict addedProfile firstLocus highest needed popOf told peakTold peakOf tenths hundredths profile popAnswer popAnswerBy popVerdict turn kept broken settingsInRange placed qualifies beats replaces better bestCutSite orMost sizeOf popSize regionWith regionOf leads peakIndex along rest superStates numbered clipCount countHigh byOperation thenClip word minimum skippedOf clipsOf evidenceTold effectiveQual lacksQuality skips counted evidenceOf meanOf withWord plOf minF toUnsigned ofInt add sub div ne foldl down firstAt each upTo lt le neg ofBits toBits round
 table-right = refl
 
 -- every row
