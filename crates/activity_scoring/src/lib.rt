@@ -14,7 +14,6 @@ pub use score::evidence_of;
 pub use score::haplotype_caller_activity_profile_state_by_tables;
 pub use score::haplotype_caller_activity_profile_state_single_sample;
 pub use score::is_in_range;
-pub use score::state_of;
 pub use tables::fill_tables;
 
 // What scoring answers.

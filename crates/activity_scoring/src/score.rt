@@ -80,7 +80,7 @@ pub fn are_observations(pile: &[u32]) -> bool
 }
 
 // The state of a pile whose score is not refused. An empty pile has no activity.
-pub fn state_of(
+fn state_of(
     contig: u32,
     pos: GenomePosition,
     pile: &[u32],

@@ -19,11 +19,12 @@ use Rattle.genome.specs.Refusals.{refused, answered}
 use Rattle.pileup_words.specs.Words.{isObservation}
 use Rattle.genotype_likelihoods.specs.declared.HaplotypeCallerActivityScoringParams.{HaplotypeCallerActivityScoringParams}
 use Rattle.activity_profile.specs.declared.ActivityProfileState.{ActivityProfileState}
+use Rattle.activity_scoring.specs.declared.Activity.{Activity}
 use Rattle.activity_scoring.specs.Mean.{meanOf}
 use Rattle.activity_scoring.specs.Score.{inRange, maxDepth, allObservations, evidenceOf, fromRounded, roundedOf, activityOf, state, emptyPile, stateWith, stateOf, scoreWith, scoreOf}
 use Rattle.multi_sample_scoring.specs.Sets.{piles, total, isEmpty, pilesLeft, clamped, withSample, anyNonRef, maxPiles, orTooDeep, anyTooDeep, setStateOf, setScoreWith, setScoreOf}
 use Rattle.multi_sample_scoring.specs.Passed.{countLeft}
-use Rattle.multi_sample_scoring.specs.Piles.{several-left}
+use Rattle.multi_sample_scoring.specs.Piles.{count-is, several-piles, state-is}
 use Rattle.multi_sample_scoring.specs.Members.{startOf, pileAt, member}
 
 -- ---- what an answer tells of the tests before it
@@ -131,5 +132,7 @@ unfolding anyNonRef
 set-of-scores contig p words lengths s r e h =
     let a = accepted-is p words lengths s (setStateOf contig p words lengths s) r e in
     sym (a .1)
-    ∙ several-left (λ (pile : List ℕ). roundedOf pile s) (fromRounded s) contig p s words lengths (a .0 .whole) h
+    ∙ state-is (λ (pile : List ℕ). roundedOf pile s) (fromRounded s) contig p s words lengths (a .0 .whole)
+    ∙ ap (λ (x : Activity). state contig p x (evidenceOf (meanOf s words)))
+    (several-piles (λ (pile : List ℕ). roundedOf pile s) (fromRounded s) (pilesLeft words lengths) (omega (arith, h, count-is words lengths (a .0 .whole))))
     ∙ ap (λ (q : Float). state contig p (record { probability = sub binary64 oneF q; original = zeroF }) (evidenceOf (meanOf s words))) (by-scores contig p s oneF (piles words lengths))

@@ -2,26 +2,27 @@
 -- Assumes nothing.
 use mathlib.Core.Path.{_≡_, refl, sym, ap, _∙_}
 use mathlib.Core.Bool.{Bool, true, false, cond}
-use mathlib.Core.List.{List, [], _∷_, _++_, map, flatten, append-nil}
-use Prim.Native.Nat.{ℕ, _+_, _≤_, _<_}
+use mathlib.Core.List.{List, [], _∷_, _++_, map, flatten, append-nil, nil≢cons, head-eq-of-cons-eq}
+use Prim.Native.Nat.{ℕ, _+_, _≤_}
 use native.Mathlib.Nat.{add-zero, zero-add}
 use native.Mathlib.Omega.{arith}
 use borrow.Author.Tests.{eqb-true}
 use lib.Dec.{eqb}
 use lib.ListN.{length, take, drop, length-drop, take-append-drop}
 use lib.Seq.{length-take-le}
-use lib.Ieee.{Float}
+use lib.Ieee.{Float, lt, ofBits}
 use Rattle.lists.specs.Loops.{foldl}
 use Rattle.lists.specs.Without.{without}
 use Rattle.doubles.specs.Constants.{zeroF}
 use Rattle.genome.specs.declared.GenomePosition.{GenomePosition}
 use Rattle.genotype_likelihoods.specs.declared.HaplotypeCallerActivityScoringParams.{HaplotypeCallerActivityScoringParams}
+use Rattle.activity_profile.specs.declared.ActivityEvidence.the-variants.{Plain}
 use Rattle.activity_scoring.specs.declared.Activity.{Activity}
 use Rattle.activity_scoring.specs.declared.RunningMean.{RunningMean}
 use Rattle.activity_scoring.specs.Mean.{withWord, none, meanOf}
-use Rattle.activity_scoring.specs.Score.{evidenceOf, state, stateWith}
+use Rattle.activity_scoring.specs.Score.{evidenceOf, state, emptyPile, stateWith}
 use Rattle.multi_sample_scoring.specs.Sets.{piles, total, isEmpty, pilesLeft, anyNonRef, stratifiedMean, setStateWith}
-use Rattle.multi_sample_scoring.specs.Passed.{withLength, countLeft}
+use Rattle.multi_sample_scoring.specs.Passed.{withLength, countLeft, setActivityWith}
 
 -- ---- the piles as one run
 
@@ -83,29 +84,53 @@ count-from k words (n ∷ lengths) h =
 pub count-is : (words lengths : List ℕ) → total lengths ≡ length words → countLeft lengths ≡ length (pilesLeft words lengths)
 count-is words lengths e = count-from 0 words lengths (omega (arith, e)) ∙ zero-add (length (pilesLeft words lengths))
 
--- ---- at most one is left, or several
+-- ---- none is left, or one, or several
 
--- of so few piles the run is all that there is
-pub few-left : (rounded : List ℕ → List Float) (activity : List Float → Activity) (contig : ℕ) (p : GenomePosition) (s : HaplotypeCallerActivityScoringParams) (words lengths : List ℕ)
-    → total lengths ≡ length words → countLeft lengths < 2
-    → setStateWith rounded activity contig p s (pilesLeft words lengths) ≡ stateWith (activity (rounded words)) contig p words s
-unfolding setStateWith stateWith flatten
-few-left rounded activity contig p s words lengths e h = go (pilesLeft words lengths) (left-are-the-run words lengths e) (omega (arith, count-is words lengths e))
-  where
-    go : (ps : List (List ℕ)) → flatten ps ≡ words → length ps < 2 → setStateWith rounded activity contig p s ps ≡ stateWith (activity (rounded words)) contig p words s
-    go [] f k = ap (λ (l : List ℕ). stateWith (activity (rounded l)) contig p l s) f
-    go (a ∷ []) f k = ap (λ (l : List ℕ). stateWith (activity (rounded l)) contig p l s) (sym (append-nil a) ∙ f)
-    go (a ∷ b ∷ ps) f k = absurd (omega arith)
+pub no-pile : (words lengths : List ℕ) → total lengths ≡ length words → countLeft lengths ≡ 0 → pilesLeft words lengths ≡ []
+no-pile words lengths e h = none-of (pilesLeft words lengths) (sym (count-is words lengths e) ∙ h)
 
-pub several-left : (rounded : List ℕ → List Float) (activity : List Float → Activity) (contig : ℕ) (p : GenomePosition) (s : HaplotypeCallerActivityScoringParams) (words lengths : List ℕ)
-    → total lengths ≡ length words → 2 ≤ countLeft lengths
-    → setStateWith rounded activity contig p s (pilesLeft words lengths)
-    ≡ state contig p (record { probability = anyNonRef activity (map rounded (pilesLeft words lengths)); original = zeroF }) (evidenceOf (meanOf s words))
-unfolding setStateWith
-several-left rounded activity contig p s words lengths e h = go (pilesLeft words lengths) (mean-of-the-run s words lengths e) (omega (arith, count-is words lengths e))
+-- the pile that is left is the run
+pub one-pile : (words lengths : List ℕ) → total lengths ≡ length words → countLeft lengths ≡ 1 → pilesLeft words lengths ≡ words ∷ []
+unfolding flatten
+one-pile words lengths e h = go (pilesLeft words lengths) (left-are-the-run words lengths e) (sym (count-is words lengths e) ∙ h)
   where
-    go : (ps : List (List ℕ)) → stratifiedMean s ps ≡ meanOf s words → 2 ≤ length ps
-        → setStateWith rounded activity contig p s ps ≡ state contig p (record { probability = anyNonRef activity (map rounded ps); original = zeroF }) (evidenceOf (meanOf s words))
-    go [] m k = absurd (omega arith)
-    go (a ∷ []) m k = absurd (omega arith)
-    go (a ∷ b ∷ ps) m k = ap (λ (x : Float). state contig p (record { probability = anyNonRef activity (map rounded (a ∷ b ∷ ps)); original = zeroF }) (evidenceOf x)) m
+    go : (ps : List (List ℕ)) → flatten ps ≡ words → length ps ≡ 1 → ps ≡ words ∷ []
+    go [] f k = absurd (omega (arith, k))
+    go (a ∷ []) f k = ap (λ (l : List ℕ). l ∷ []) (sym (append-nil a) ∙ f)
+    go (a ∷ b ∷ ps) f k = absurd (omega (arith, k))
+
+module _ (rounded : List ℕ → List Float) (activity : List Float → Activity) where
+  pub several-piles : (ps : List (List ℕ)) → 2 ≤ length ps → setActivityWith rounded activity ps ≡ record { probability = anyNonRef activity (map rounded ps); original = zeroF }
+  unfolding setActivityWith
+  several-piles [] h = absurd (omega arith)
+  several-piles (a ∷ []) h = absurd (omega arith)
+  several-piles (a ∷ b ∷ ps) h = refl
+
+  -- a pile that is left is not empty
+  not-empty : (ps : List (List ℕ)) (pile : List ℕ) → without isEmpty ps ≡ pile ∷ [] → isEmpty pile ≡ false
+  unfolding without
+  not-empty [] pile e = absurd (nil≢cons e)
+  not-empty (p ∷ ps) pile e = go (isEmpty p) refl e (not-empty ps pile)
+    where
+      go : (b : Bool) → isEmpty p ≡ b → cond b (without isEmpty ps) (p ∷ without isEmpty ps) ≡ pile ∷ [] → (without isEmpty ps ≡ pile ∷ [] → isEmpty pile ≡ false) → isEmpty pile ≡ false
+      go true f e rest = rest e
+      go false f e rest = ap isEmpty (sym (head-eq-of-cons-eq e)) ∙ f
+
+  no-clips : (s : HaplotypeCallerActivityScoringParams) → evidenceOf (stratifiedMean s []) ≡ Plain
+  unfolding evidenceOf stratifiedMean foldl lt ofBits
+  no-clips s = refl
+
+  -- the state is the activity, and the evidence of the run's mean
+  pub state-is : (contig : ℕ) (p : GenomePosition) (s : HaplotypeCallerActivityScoringParams) (words lengths : List ℕ) → total lengths ≡ length words
+      → setStateWith rounded activity contig p s (pilesLeft words lengths) ≡ state contig p (setActivityWith rounded activity (pilesLeft words lengths)) (evidenceOf (meanOf s words))
+  unfolding setStateWith setActivityWith stateWith flatten
+  state-is contig p s words lengths e =
+      go (pilesLeft words lengths) (left-are-the-run words lengths e) (mean-of-the-run s words lengths e) (not-empty (piles words lengths))
+    where
+      go : (ps : List (List ℕ)) → flatten ps ≡ words → stratifiedMean s ps ≡ meanOf s words → ((pile : List ℕ) → ps ≡ pile ∷ [] → isEmpty pile ≡ false)
+          → setStateWith rounded activity contig p s ps ≡ state contig p (setActivityWith rounded activity ps) (evidenceOf (meanOf s words))
+      go [] f m some = ap (state contig p (record { probability = zeroF; original = zeroF })) (sym (no-clips s) ∙ ap evidenceOf m)
+      go (a ∷ []) f m some =
+          ap (λ (b : Bool). cond b (emptyPile contig p) (state contig p (activity (rounded a)) (evidenceOf (meanOf s a)))) (some a refl)
+          ∙ ap (λ (l : List ℕ). state contig p (activity (rounded a)) (evidenceOf (meanOf s l))) (sym (append-nil a) ∙ f)
+      go (a ∷ b ∷ ps) f m some = ap (λ (x : Float). state contig p (record { probability = anyNonRef activity (map rounded (a ∷ b ∷ ps)); original = zeroF }) (evidenceOf x)) m

@@ -5,6 +5,7 @@ use crate::lengths::is_any_too_deep;
 use crate::lengths::total_of;
 use crate::posterior::calculate_multi_sample_any_non_ref_posterior;
 use activity_profile::ActivityProfileState;
+use activity_scoring::Activity;
 use activity_scoring::Scored;
 use genome::GenomePosition;
 use genome::Refusal;
@@ -15,6 +16,7 @@ ghost use lib.ListN.{length};
 ghost use Rattle.activity_scoring.specs.Score.{scoredOf};
 ghost use Rattle.multi_sample_scoring.specs.Sets.{maxPiles, total, setScoreOf};
 ghost use Rattle.multi_sample_scoring.specs.Tables.{setStateBy, setScoreBy};
+ghost use Rattle.multi_sample_scoring.specs.Passed.{setActivityBy};
 
 // Scores a set of piles. Refuses more than 64 piles, then a setting or a position outside its range, then a pile that is
 // too deep, then lengths that do not add up to the run, then a word that is no observation.
@@ -75,7 +77,7 @@ pub fn haplotype_caller_activity_profile_state_multi_sample_by_tables(
     Scored::Score(set_state(contig, pos, words, lengths, params, table, priors))
 }
 
-// The state of a set that is not refused. Where at most one pile is left, the run is that pile.
+// The state of a set that is not refused. The clip mean runs on from pile to pile, so it is that of the run.
 fn set_state(
     contig: u32,
     pos: GenomePosition,
@@ -89,23 +91,49 @@ fn set_state(
     ensures { λ r. ⌜ r
         ≡ setStateBy (now (table .entry)) (now (priors .entry)) contig pos (now (words .entry)) (now (lengths .entry)) params ⌝ }
 {
-    if count_left(lengths) < 2 {
-        return activity_scoring::state_of(contig, pos, words, params, table, priors);
-    }
     let mean = activity_scoring::hq_soft_clip_running_mean_rcm_path(words, params);
     let evidence = activity_scoring::evidence_of(mean);
-    let active_prob = calculate_multi_sample_any_non_ref_posterior(
+    let a = set_activity(words, lengths, params, table, priors);
+    ActivityProfileState {
+        contig,
+        pos,
+        active_prob: a.probability,
+        original_active_prob: a.original,
+        evidence,
+    }
+}
+
+// The activity of a set. With one pile left, the run is that pile.
+fn set_activity(
+    words: &[u32],
+    lengths: &[u32],
+    params: HaplotypeCallerActivityScoringParams,
+    table: &[f64],
+    priors: &[f64],
+) -> Activity
+    requires { ⌜ (length (now lengths) ≤ maxPiles) × (total (now lengths) ≡ length (now words)) ⌝ }
+    ensures { λ r. ⌜ r
+        ≡ setActivityBy (now (table .entry)) (now (priors .entry)) params (now (words .entry)) (now (lengths .entry)) ⌝ }
+{
+    let left = count_left(lengths);
+    if left == 0 {
+        return Activity {
+            probability: 0.0,
+            original: 0.0,
+        };
+    }
+    if left == 1 {
+        return activity_scoring::activity_of(words, params, table, priors);
+    }
+    let probability = calculate_multi_sample_any_non_ref_posterior(
         words,
         lengths,
         params,
         table,
         priors,
     );
-    ActivityProfileState {
-        contig,
-        pos,
-        active_prob,
-        original_active_prob: 0.0,
-        evidence,
+    Activity {
+        probability,
+        original: 0.0,
     }
 }
