@@ -47,7 +47,7 @@ likelihoodsOf s = map (λ (pile : List ℕ). roundedOf pile s)
 unfoldable pub clamped : Float → Float
 clamped x = cond (lt x zeroF) zeroF (cond (lt oneF x) oneF x)
 
--- that no sample is active: after those before, q, and one sample more, whose activity `activity` gives
+-- the probability that no sample is active: q after those before, and one sample more; `activity` is what comes of its likelihoods
 abbrev pub withSample : (List Float → Activity) → Float → List Float → Float
 withSample activity q gl = mul binary64 q (clamped (sub binary64 oneF (activity gl .probability)))
 

@@ -49,7 +49,7 @@ pub(crate) fn past(at: usize, n: u32) -> usize
     at + n as usize
 }
 
-// How many piles are not empty.
+// How many piles are not empty, so that they are left.
 pub(crate) fn count_left(lengths: &[u32]) -> usize
     ensures { λ r. ⌜ r ≡ countLeft (now (lengths .entry)) ⌝ }
 {
