@@ -218,6 +218,37 @@ fn edge_sets(out: &mut impl Write) {
     cuts(DEFAULT, &[near(9), word(255, false, true, true, 40), reference(20), near(4), word(9, false, true, true, 90), near(7)], out);
 }
 
+/// Piles of a few words whose probability is not far above a half. A probability is 0.0 or above a half, so that of three piles no product is larger than an eighth, and with
+/// others it is too small for its last bits to show in 1 less it.
+fn close_piles(s: &Scoring) -> Vec<Vec<u32>> {
+    let mut all = Vec::new();
+    for qual in 1..=40 {
+        for other in [1, 5, 10, 20] {
+            for (alts, references) in [(1, 0), (1, 1), (2, 1), (1, 2), (2, 2), (3, 2), (2, 3)] {
+                let mut pile = vec![alt(qual); alts];
+                pile.resize(alts + references, reference(other));
+                let probability = score(s, CONTIG, 9, &pile).probability;
+                if probability > 0.0 && probability < 0.75 {
+                    all.push(pile);
+                }
+            }
+        }
+    }
+    all
+}
+
+/// Sets in which the order of the product may show.
+fn close_sets(r: &mut Random, count: u64, out: &mut impl Write) {
+    for ploidy in [1, 2] {
+        let s = Scoring { ploidy, min_qual: 1, heterozygosity: 0.5, deviation: 1.0, ..DEFAULT };
+        let close = close_piles(&s);
+        for _ in 0..count {
+            let set: Vec<Vec<u32>> = (0..3).map(|_| close[r.below(close.len() as u64) as usize].clone()).collect();
+            piles_answer(s, &set, out);
+        }
+    }
+}
+
 /// A pile of words as a reader has them, or of skipped ones alone.
 fn some_pile(r: &mut Random, s: &Scoring, alts: u64) -> Vec<u32> {
     let skipped = r.chance(6);
@@ -265,4 +296,5 @@ pub fn set_list(seed: u64, count: u64, out: &mut impl Write) {
     for _ in 0..count {
         some_set(&mut r, out);
     }
+    close_sets(&mut r, count / 8, out);
 }
