@@ -116,12 +116,12 @@ uint32_t region_picker_score(uint32_t position, const uint32_t *pile, size_t pil
                              double heterozygosity_standard_deviation, uint8_t ref_model_deletion_qual, double active_region_alt_multiplier,
                              bool flow_based_reference_model, double activity[2], uint32_t evidence[2]);
 
-/* Scores a position that was read as several samples, as separate pools are: `words` is one run of all their words, and `lengths` says how many of them each pile has,
- * in the order in which the piles stand; an empty pile has length 0. Settings, tables and what is written are those of region_picker_score. Empty piles are passed over. With none
- * left the answer is 0.0, 0.0 and plain; with one left it is what region_picker_score answers for that pile; with more the probability is that of any sample being active, 1 less the product
- * over the piles, in their order, of 1 less what each scores alone, the original probability is 0.0, and the clip mean runs on from pile to pile. A pile whose words are all
- * skipped is not empty. At most 64 piles, empty ones counted, of at most 16,384 words each. Refuses 12, then 1, 4 for any length, 3 for lengths that do not add up to words_length, and 3 for
- * a word. */
+/* Scores a position that was read as several samples, as separate pools are: `words` is one run of all their words, and `lengths` says how many of them each pile
+ * has, in the order in which the piles stand; an empty pile has length 0. Settings, tables and what is written are those of region_picker_score. Empty piles are
+ * passed over. With none left the answer is 0.0, 0.0 and plain; with one left it is what region_picker_score answers for that pile; with more the probability is that
+ * of any sample being active, 1 less the product over the piles, in their order, of 1 less what each scores alone, the original probability is 0.0, and the clip mean
+ * runs on from pile to pile. A pile whose words are all skipped is not empty. At most 64 piles, empty ones counted, of at most 16,384 words each. Refuses 12, then 1,
+ * 4 for any length, 3 for lengths that do not add up to words_length, and 3 for a word. */
 uint32_t region_picker_score_set(uint32_t position, const uint32_t *words, size_t words_length, const uint32_t *lengths, size_t lengths_length,
                                  const double *table, size_t table_length, const double *priors, size_t priors_length, uint8_t min_base_quality_score,
                                  uint8_t sample_ploidy, double snp_heterozygosity, double heterozygosity_standard_deviation, uint8_t ref_model_deletion_qual,

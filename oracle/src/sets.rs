@@ -218,8 +218,8 @@ fn edge_sets(out: &mut impl Write) {
     cuts(DEFAULT, &[near(9), word(255, false, true, true, 40), reference(20), near(4), word(9, false, true, true, 90), near(7)], out);
 }
 
-/// Piles of a few words whose probability is not far above a half. A probability is 0.0 or above a half, so that of three piles no product is larger than an eighth, and with
-/// others it is too small for its last bits to show in 1 less it.
+/// Piles of a few words whose probability is not far above a half. One that is not 0.0 is a half at least, but for roundings, so that the product over most piles is too small
+/// for its last bits to show in 1 less it.
 fn close_piles(s: &Scoring) -> Vec<Vec<u32>> {
     let mut all = Vec::new();
     for qual in 1..=40 {
