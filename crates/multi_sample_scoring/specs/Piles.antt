@@ -99,26 +99,26 @@ one-pile words lengths e h = go (pilesLeft words lengths) (left-are-the-run word
     go (a ∷ []) f k = ap (λ (l : List ℕ). l ∷ []) (sym (append-nil a) ∙ f)
     go (a ∷ b ∷ ps) f k = absurd (omega (arith, k))
 
+-- a pile that is left is not empty
+not-empty : (ps : List (List ℕ)) (pile : List ℕ) → without isEmpty ps ≡ pile ∷ [] → isEmpty pile ≡ false
+unfolding without
+not-empty [] pile e = absurd (nil≢cons e)
+not-empty (p ∷ ps) pile e = go (isEmpty p) refl e (not-empty ps pile)
+  where
+    go : (b : Bool) → isEmpty p ≡ b → cond b (without isEmpty ps) (p ∷ without isEmpty ps) ≡ pile ∷ [] → (without isEmpty ps ≡ pile ∷ [] → isEmpty pile ≡ false) → isEmpty pile ≡ false
+    go true f e rest = rest e
+    go false f e rest = ap isEmpty (sym (head-eq-of-cons-eq e)) ∙ f
+
+no-clips : (s : HaplotypeCallerActivityScoringParams) → evidenceOf (stratifiedMean s []) ≡ Plain
+unfolding evidenceOf stratifiedMean foldl lt ofBits
+no-clips s = refl
+
 module _ (rounded : List ℕ → List Float) (activity : List Float → Activity) where
   pub several-piles : (ps : List (List ℕ)) → 2 ≤ length ps → setActivityWith rounded activity ps ≡ record { probability = anyNonRef activity (map rounded ps); original = zeroF }
   unfolding setActivityWith
   several-piles [] h = absurd (omega arith)
   several-piles (a ∷ []) h = absurd (omega arith)
   several-piles (a ∷ b ∷ ps) h = refl
-
-  -- a pile that is left is not empty
-  not-empty : (ps : List (List ℕ)) (pile : List ℕ) → without isEmpty ps ≡ pile ∷ [] → isEmpty pile ≡ false
-  unfolding without
-  not-empty [] pile e = absurd (nil≢cons e)
-  not-empty (p ∷ ps) pile e = go (isEmpty p) refl e (not-empty ps pile)
-    where
-      go : (b : Bool) → isEmpty p ≡ b → cond b (without isEmpty ps) (p ∷ without isEmpty ps) ≡ pile ∷ [] → (without isEmpty ps ≡ pile ∷ [] → isEmpty pile ≡ false) → isEmpty pile ≡ false
-      go true f e rest = rest e
-      go false f e rest = ap isEmpty (sym (head-eq-of-cons-eq e)) ∙ f
-
-  no-clips : (s : HaplotypeCallerActivityScoringParams) → evidenceOf (stratifiedMean s []) ≡ Plain
-  unfolding evidenceOf stratifiedMean foldl lt ofBits
-  no-clips s = refl
 
   -- the state is the activity, and the evidence of the run's mean
   pub state-is : (contig : ℕ) (p : GenomePosition) (s : HaplotypeCallerActivityScoringParams) (words lengths : List ℕ) → total lengths ≡ length words
