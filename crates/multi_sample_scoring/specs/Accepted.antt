@@ -22,7 +22,7 @@ use Rattle.activity_profile.specs.declared.ActivityProfileState.{ActivityProfil
 use Rattle.activity_scoring.specs.declared.Activity.{Activity}
 use Rattle.activity_scoring.specs.Mean.{meanOf}
 use Rattle.activity_scoring.specs.Score.{inRange, maxDepth, allObservations, evidenceOf, fromRounded, roundedOf, activityOf, state, emptyPile, stateWith, stateOf, scoreWith, scoreOf}
-use Rattle.multi_sample_scoring.specs.Sets.{piles, total, isEmpty, pilesLeft, clamped, withSample, anyNonRef, maxPiles, orTooDeep, anyTooDeep, setStateOf, setScoreWith, setScoreOf}
+use Rattle.multi_sample_scoring.specs.Sets.{piles, total, isEmpty, pilesLeft, likelihoodsOf, clamped, withSample, anyNonRef, maxPiles, orTooDeep, anyTooDeep, setStateOf, setScoreWith, setScoreOf}
 use Rattle.multi_sample_scoring.specs.Passed.{countLeft}
 use Rattle.multi_sample_scoring.specs.Piles.{count-is, several-piles, state-is}
 use Rattle.multi_sample_scoring.specs.Members.{startOf, pileAt, member}
@@ -124,6 +124,15 @@ by-scores contig p s q (pile ∷ ps) = go (isEmpty pile) refl (λ r. by-scores c
     go false e rest =
         rest (withSample (fromRounded s) q (roundedOf pile s)) ∙ ap (λ (x : Float). foldl withProbability (withProbability q x) (map (alone contig p s) (without isEmpty ps))) (alone-is contig p s pile e)
 
+-- Where several piles are left, the probability is made of just the likelihoods of which `Member` speaks.
+pub several-left : (contig : ℕ) (p : GenomePosition) (words lengths : List ℕ) (s : HaplotypeCallerActivityScoringParams) → total lengths ≡ length words → 2 ≤ countLeft lengths
+    → setStateOf contig p words lengths s
+    ≡ state contig p (record { probability = anyNonRef (fromRounded s) (likelihoodsOf s (pilesLeft words lengths)); original = zeroF }) (evidenceOf (meanOf s words))
+several-left contig p words lengths s e h =
+    state-is (λ (pile : List ℕ). roundedOf pile s) (fromRounded s) contig p s words lengths e
+    ∙ ap (λ (x : Activity). state contig p x (evidenceOf (meanOf s words)))
+    (several-piles (λ (pile : List ℕ). roundedOf pile s) (fromRounded s) (pilesLeft words lengths) (omega (arith, h, count-is words lengths e)))
+
 -- Where several piles are left: 1 less the product, in the order of the piles, of 1 less what each scores alone; original 0.0; the evidence of the run's mean.
 pub set-of-scores : (contig : ℕ) (p : GenomePosition) (words lengths : List ℕ) (s : HaplotypeCallerActivityScoringParams) (r : ActivityProfileState)
     → setScoreOf contig p words lengths s ≡ answered r → 2 ≤ countLeft lengths
@@ -132,7 +141,5 @@ unfolding anyNonRef
 set-of-scores contig p words lengths s r e h =
     let a = accepted-is p words lengths s (setStateOf contig p words lengths s) r e in
     sym (a .1)
-    ∙ state-is (λ (pile : List ℕ). roundedOf pile s) (fromRounded s) contig p s words lengths (a .0 .whole)
-    ∙ ap (λ (x : Activity). state contig p x (evidenceOf (meanOf s words)))
-    (several-piles (λ (pile : List ℕ). roundedOf pile s) (fromRounded s) (pilesLeft words lengths) (omega (arith, h, count-is words lengths (a .0 .whole))))
+    ∙ several-left contig p words lengths s (a .0 .whole) h
     ∙ ap (λ (q : Float). state contig p (record { probability = sub binary64 oneF q; original = zeroF }) (evidenceOf (meanOf s words))) (by-scores contig p s oneF (piles words lengths))

@@ -1,11 +1,10 @@
 // The lengths of a set's piles, without its words.
 use activity_scoring::MAX_DEPTH;
 ghost use mathlib.Core.Path.{_≡_};
-ghost use Prim.Native.Nat.{_+_, _*_, _≤_, _<_};
+ghost use Prim.Native.Nat.{_<_};
 ghost use lib.Dec.{ltb};
-ghost use lib.ListN.{length};
 ghost use Rattle.activity_scoring.specs.Score.{maxDepth};
-ghost use Rattle.multi_sample_scoring.specs.Sets.{maxPiles, total, anyTooDeep};
+ghost use Rattle.multi_sample_scoring.specs.Sets.{anyTooDeep};
 ghost use Rattle.multi_sample_scoring.specs.Passed.{withLength, countLeft};
 
 // Whether any pile has too many words.
@@ -25,28 +24,6 @@ fn is_too_deep(n: u32) -> bool
     ensures { λ r. ⌜ r ≡ ltb maxDepth n ⌝ }
 {
     n as usize > MAX_DEPTH
-}
-
-// What the lengths add up to. So few of them do not pass 2 to the 38.
-pub(crate) fn total_of(lengths: &[u32]) -> usize
-    requires { ⌜ length (now lengths) ≤ maxPiles ⌝ }
-    ensures { λ r. ⌜ r ≡ total (now (lengths .entry)) ⌝ }
-{
-    let mut sum = 0;
-    let mut i = 0;
-    while i < lengths.len() {
-        sum = past(sum, lengths[i]);
-        i += 1;
-    }
-    sum
-}
-
-// Where a pile of n words ends that begins at `at`.
-pub(crate) fn past(at: usize, n: u32) -> usize
-    requires { ⌜ at ≤ maxPiles * 4294967295 ⌝ }
-    ensures { λ r. ⌜ (r ≡ at + n) × (r ≤ at + 4294967295) ⌝ }
-{
-    at + n as usize
 }
 
 // How many piles are not empty, so that they are left.

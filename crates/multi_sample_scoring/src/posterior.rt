@@ -1,37 +1,11 @@
-// The probability that any sample of a set is active.
-use crate::lengths::past;
+// What one pile contributes to the probability that no sample of a set is active.
 use genotype_likelihoods::HaplotypeCallerActivityScoringParams;
 ghost use mathlib.Core.Path.{_≡_};
-ghost use Prim.Native.Nat.{_≤_};
-ghost use lib.ListN.{length};
-ghost use Rattle.multi_sample_scoring.specs.Sets.{maxPiles, total, clamped};
-ghost use Rattle.multi_sample_scoring.specs.Passed.{withPile, anyBy};
-
-// 1 less the product, in the order of the piles, of the probabilities that each is not active. Empty ones are passed over.
-pub(crate) fn calculate_multi_sample_any_non_ref_posterior(
-    words: &[u32],
-    lengths: &[u32],
-    params: HaplotypeCallerActivityScoringParams,
-    table: &[f64],
-    priors: &[f64],
-) -> f64
-    requires { ⌜ (length (now lengths) ≤ maxPiles) × (total (now lengths) ≡ length (now words)) ⌝ }
-    ensures { λ r. ⌜ r ≡ anyBy (now (table .entry)) (now (priors .entry)) params (now (words .entry)) (now (lengths .entry)) ⌝ }
-{
-    let mut inactive_prob = 1.0;
-    let mut at = 0;
-    let mut i = 0;
-    while i < lengths.len() {
-        let end = past(at, lengths[i]);
-        inactive_prob = with_pile(inactive_prob, &words[at..end], params, table, priors);
-        at = end;
-        i += 1;
-    }
-    1.0 - inactive_prob
-}
+ghost use Rattle.multi_sample_scoring.specs.Sets.{clamped};
+ghost use Rattle.multi_sample_scoring.specs.Passed.{withPile};
 
 // The probability that no sample is active, after one pile more.
-fn with_pile(
+pub(crate) fn with_pile(
     inactive_prob: f64,
     pile: &[u32],
     params: HaplotypeCallerActivityScoringParams,

@@ -2,8 +2,7 @@
 use crate::MAX_PILES;
 use crate::lengths::count_left;
 use crate::lengths::is_any_too_deep;
-use crate::lengths::total_of;
-use crate::posterior::calculate_multi_sample_any_non_ref_posterior;
+use crate::posterior::with_pile;
 use activity_profile::ActivityProfileState;
 use activity_scoring::Activity;
 use activity_scoring::Scored;
@@ -11,12 +10,12 @@ use genome::GenomePosition;
 use genome::Refusal;
 use genotype_likelihoods::HaplotypeCallerActivityScoringParams;
 ghost use mathlib.Core.Path.{_≡_};
-ghost use Prim.Native.Nat.{_≤_};
+ghost use Prim.Native.Nat.{_+_, _*_, _≤_};
 ghost use lib.ListN.{length};
 ghost use Rattle.activity_scoring.specs.Score.{scoredOf};
 ghost use Rattle.multi_sample_scoring.specs.Sets.{maxPiles, total, setScoreOf};
 ghost use Rattle.multi_sample_scoring.specs.Tables.{setStateBy, setScoreBy};
-ghost use Rattle.multi_sample_scoring.specs.Passed.{setActivityBy};
+ghost use Rattle.multi_sample_scoring.specs.Passed.{anyBy, setActivityBy};
 
 // Scores a set of piles. Refuses more than 64 piles, then a setting or a position outside its range, then a pile that is
 // too deep, then lengths that do not add up to the run, then a word that is no observation.
@@ -136,4 +135,49 @@ fn set_activity(
         probability,
         original: 0.0,
     }
+}
+
+// 1 less the product, in the order of the piles, of the probabilities that each is not active. Empty ones are passed over.
+fn calculate_multi_sample_any_non_ref_posterior(
+    words: &[u32],
+    lengths: &[u32],
+    params: HaplotypeCallerActivityScoringParams,
+    table: &[f64],
+    priors: &[f64],
+) -> f64
+    requires { ⌜ (length (now lengths) ≤ maxPiles) × (total (now lengths) ≡ length (now words)) ⌝ }
+    ensures { λ r. ⌜ r ≡ anyBy (now (table .entry)) (now (priors .entry)) params (now (words .entry)) (now (lengths .entry)) ⌝ }
+{
+    let mut inactive_prob = 1.0;
+    let mut at = 0;
+    let mut i = 0;
+    while i < lengths.len() {
+        let end = past(at, lengths[i]);
+        inactive_prob = with_pile(inactive_prob, &words[at..end], params, table, priors);
+        at = end;
+        i += 1;
+    }
+    1.0 - inactive_prob
+}
+
+// What the lengths add up to. So few of them do not pass 2 to the 38.
+fn total_of(lengths: &[u32]) -> usize
+    requires { ⌜ length (now lengths) ≤ maxPiles ⌝ }
+    ensures { λ r. ⌜ r ≡ total (now (lengths .entry)) ⌝ }
+{
+    let mut sum = 0;
+    let mut i = 0;
+    while i < lengths.len() {
+        sum = past(sum, lengths[i]);
+        i += 1;
+    }
+    sum
+}
+
+// Where a pile of n words ends that begins at `at`.
+fn past(at: usize, n: u32) -> usize
+    requires { ⌜ at ≤ maxPiles * 4294967295 ⌝ }
+    ensures { λ r. ⌜ (r ≡ at + n) × (r ≤ at + 4294967295) ⌝ }
+{
+    at + n as usize
 }

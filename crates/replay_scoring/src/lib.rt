@@ -2,7 +2,6 @@
 // through the proved library. No public function has a `requires`.
 mod clips;
 mod scores;
-mod sets;
 mod sums;
 
 ghost use mathlib.Core.Path.{_≡_};
@@ -19,7 +18,7 @@ pub fn replay(function: u64, words: &[u64]) -> bool
         14 => scores::score(words),
         15 => sums::pair_sum(words),
         16 => sums::log10_sum(words),
-        20 => sets::score_set(words),
+        20 => scores::score_set(words),
         _ => false,
     }
 }

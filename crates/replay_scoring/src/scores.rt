@@ -1,4 +1,5 @@
-// Scores of piles.
+// Scores of piles, and of sets of them.
+use crate::clips::numbers_from;
 use activity_profile::ActivityEvidence;
 use activity_profile::ActivityProfileState;
 use activity_scoring::Scored;
@@ -32,8 +33,29 @@ fn score_in(words: &[u64], pile: &[u32], results: usize) -> bool {
     scored_at(words, results, scored)
 }
 
+// As a score: contig, position, the settings, how many words the run has, k, words[k]; then m, lengths[m]; and its results.
+pub(crate) fn score_set(words: &[u64]) -> bool {
+    let n = depth_at(words, 9);
+    let k = length_at(words, 10);
+    let m = length_at(words, 11 + k);
+    let run = run_from(words, 11, k, n);
+    let lengths = numbers_from(words, 12 + k);
+    score_set_in(words, &run[..n], &lengths[..m], 12 + k + m)
+}
+
+fn score_set_in(words: &[u64], run: &[u32], lengths: &[u32], results: usize) -> bool {
+    let scored = multi_sample_scoring::haplotype_caller_activity_profile_state_multi_sample(
+        number_at(words, 0),
+        GenomePosition(number_at(words, 1)),
+        run,
+        lengths,
+        params_at(words),
+    );
+    scored_at(words, results, scored)
+}
+
 // Whether the results from a word on are those of a score.
-pub(crate) fn scored_at(words: &[u64], results: usize, scored: Scored) -> bool {
+fn scored_at(words: &[u64], results: usize, scored: Scored) -> bool {
     let c = Compared::from(results);
     match scored {
         Scored::Score(s) => state(words, c.word(words, 0), s).whole(words),
@@ -64,7 +86,7 @@ fn evidence(e: ActivityEvidence) -> u64 {
 }
 
 // The settings of scoring, from word 2 on.
-pub(crate) fn params_at(words: &[u64]) -> HaplotypeCallerActivityScoringParams {
+fn params_at(words: &[u64]) -> HaplotypeCallerActivityScoringParams {
     HaplotypeCallerActivityScoringParams {
         min_base_quality_score: byte_at(words, 2),
         sample_ploidy: Ploidy(byte_at(words, 3)),
@@ -81,10 +103,10 @@ fn byte_at(words: &[u64], i: usize) -> u8 {
 }
 
 // Room for a run of words: three times the deepest pile, and more.
-pub(crate) const RUN: usize = 65536;
+const RUN: usize = 65536;
 
 // The depth in word i, cut to the room that there is.
-pub(crate) fn depth_at(words: &[u64], i: usize) -> usize
+fn depth_at(words: &[u64], i: usize) -> usize
     ensures { λ r. ⌜ r ≤ 65536 ⌝ }
 {
     let n = word_at(words, i);
@@ -95,7 +117,7 @@ pub(crate) fn depth_at(words: &[u64], i: usize) -> usize
 }
 
 // The first n words of a run that goes round the k words from word `at` on.
-pub(crate) fn run_from(words: &[u64], at: usize, k: usize, n: usize) -> [u32; RUN]
+fn run_from(words: &[u64], at: usize, k: usize, n: usize) -> [u32; RUN]
     requires { ⌜ n ≤ 65536 ⌝ }
 {
     let mut run = [0u32; RUN];

@@ -6,8 +6,8 @@ use lib.ListN.{drop, length}
 use borrow.Author.Needs.{needs}
 use Rattle.multi_sample_scoring.specs.Sets.{total}
 use Rattle.multi_sample_scoring.proofs.Walk.{total-end, total-turn}
-use Rattle.multi_sample_scoring.proofs.lengths.total_of.Statement.{statement}
-use Rattle.multi_sample_scoring.proofs.lengths.total_of.Tie as tie
+use Rattle.multi_sample_scoring.proofs.score.total_of.Statement.{statement}
+use Rattle.multi_sample_scoring.proofs.score.total_of.Tie as tie
 
 abbrev Inv-loop : tie.InvT-loop
 Inv-loop lengths sum₀ i₀ sum i = (i ≤ length lengths) × (sum + total (drop i lengths) ≡ total lengths) × (sum ≤ i * 4294967295)

@@ -10,8 +10,8 @@ use Rattle.doubles.specs.Constants.{oneF}
 use Rattle.multi_sample_scoring.specs.Passed.{withPile}
 use Rattle.multi_sample_scoring.specs.Sets.{anyNonRef, piles, total}
 use Rattle.multi_sample_scoring.proofs.Walk.{piles-end, piles-turn, total-turn, walk-is}
-use Rattle.multi_sample_scoring.proofs.posterior.calculate_multi_sample_any_non_ref_posterior.Statement.{statement}
-use Rattle.multi_sample_scoring.proofs.posterior.calculate_multi_sample_any_non_ref_posterior.Tie as tie
+use Rattle.multi_sample_scoring.proofs.score.calculate_multi_sample_any_non_ref_posterior.Statement.{statement}
+use Rattle.multi_sample_scoring.proofs.score.calculate_multi_sample_any_non_ref_posterior.Tie as tie
 
 abbrev Inv-loop : tie.InvT-loop
 Inv-loop words lengths params table priors inactive-prob₀ at₀ i₀ inactive-prob at i =

@@ -3,8 +3,8 @@ use mathlib.Core.Path.{sym}
 use native.Mathlib.Omega.{arith}
 use lib.Seq.{length-take-le}
 use borrow.Author.Needs.{needs}
-use Rattle.replay_scoring.proofs.sets.score_set.Statement.{statement}
-use Rattle.replay_scoring.proofs.sets.score_set.Tie as tie
+use Rattle.replay_scoring.proofs.scores.score_set.Statement.{statement}
+use Rattle.replay_scoring.proofs.scores.score_set.Tie as tie
 
 depth-at-requires : tie.Need-depth-at-requires
 depth-at-requires c κs = search needs
