@@ -1,6 +1,6 @@
 -- Finite doubles that are 2 ^ -j at least: products, quotients and sums of them. Assumes nothing.
 use Rattle.std.specs.Prelude.{◌≡◌, refl, Bool, true, cond, ℕ, zero, suc, ◌+◌, ◌-◌, ◌*◌, ◌^◌, ◌≤◌, ◌<◌, T, eqb, Float}
-use Rattle.std.proofs.Common.{sym, ap, subst, ◌∙◌, true≢false, le_trans, le_refl, le_of_eq, le_of_mul_le_mul_right, zero-mul, mul-le-mul, mul-pos, mul-le-mul_right, eqb→eq, lt→ltb, pow_pos, pow-add}
+use Rattle.std.proofs.Common.{sym, ap, subst, ◌∙◌, true≢false, le_trans, le_refl, le_of_eq, le_of_mul-le-mul_right, zero-mul, mul-le-mul, mul-pos, mul-le-mul_right, eqb→eq, lt→ltb, pow_pos, pow-add}
 use Rattle.std.proofs.Math.Bool.{false}
 use native.Mathlib.Omega.{arith}
 use Rattle.std.proofs.Math.Pow.{pow-lt}
@@ -49,7 +49,7 @@ least_up j k (fin false m e) (inf t) p h q = absurd q
 least_up j k (fin false m e) (fin true n d) p h q =
     absurd (none (2 ^ j) (m * up e) (down e) (down_pos e) h.0 p.1)
 least_up j k (fin false m e) (fin false n d) p h q =
-    (refl, le_of_mul_le_mul_right (le_trans (through (2 ^ j) (m * up e) (down e) (down d) p.1) (le_trans (times (2 ^ j) (m * up e * down d) (n * up d * down e) h) (le_of_eq (sorted (2 ^ j) (n * up d) (down e))))) (down_pos e))
+    (refl, le_of_mul-le-mul_right (le_trans (through (2 ^ j) (m * up e) (down e) (down d) p.1) (le_trans (times (2 ^ j) (m * up e * down d) (n * up d * down e) h) (le_of_eq (sorted (2 ^ j) (n * up d) (down e))))) (down_pos e))
   where
     through : (a x c d : ℕ) → c ≤ a * x → d * c ≤ a * (x * d)
     through a x c d l = le_trans (le_of_eq (flip d c)) (le_trans (mul-le-mul_right d l) (le_of_eq (assoc a x d)))
@@ -77,7 +77,7 @@ size_down k (fin false m e) nan p h q = absurd q
 size_down k (fin false m e) (inf t) p h q = absurd q
 size_down k (fin false m e) (fin true n d) p h q = subst (λ (z : ℕ). z ≤ 2 ^ k * down e) (sym h.0) (omega arith)
 size_down k (fin false m e) (fin false n d) p h q =
-    le_of_mul_le_mul_right (le_trans h (le_trans (mul-le-mul_right (down e) q) (le_of_eq (sorted (2 ^ k) (down d) (down e))))) (down_pos d)
+    le_of_mul-le-mul_right (le_trans h (le_trans (mul-le-mul_right (down e) q) (le_of_eq (sorted (2 ^ k) (down d) (down e))))) (down_pos d)
   where
     sorted : (a x c : ℕ) → a * x * c ≡ a * c * x
     sorted a x c = omega arith

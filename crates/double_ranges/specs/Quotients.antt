@@ -1,7 +1,7 @@
 -- Quotients by what is above 0, squares, and sums that are no smaller than their second term. Assumes nothing.
-use Rattle.std.specs.Prelude.{◌≡◌, refl, Bool, true, false, cond, ◌&&◌, ℕ, zero, suc, ◌+◌, ◌-◌, ◌*◌, ◌^◌, ◌≤◌, ◌<◌, T, ltb, eqb, ℤ, pos, Float}
+use Rattle.std.specs.Prelude.{◌≡◌, refl, Bool, true, false, cond, ℕ, zero, suc, ◌+◌, ◌-◌, ◌*◌, ◌^◌, ◌≤◌, ◌<◌, T, eqb, ℤ, pos, Float}
 use Rattle.std.proofs.Common.{sym, ap, subst, ◌∙◌, true≢false, zero-mul, mul-pos, le_refl, arith, eqb→eq, le-ltb}
-use Rattle.std.specs.Float.{nan, inf, fin, Format, binary64}
+use Rattle.std.specs.Float.{nan, inf, fin, binary64}
 use Rattle.std.specs.Float.Ieee.{low, up, down, unlike, round, neg, sum, add, sub, mul, div, fits, of_bits}
 use Rattle.std.specs.Float.Ieee.Fits.{down_pos, round-fits}
 use Rattle.std.specs.Float.Ieee.Back.{whole_unique}

@@ -1,6 +1,6 @@
 -- Finite doubles of size 2 ^ k at most: what the operations make of them, whatever is rounded. Assumes nothing.
 use Rattle.std.specs.Prelude.{◌≡◌, refl, Bool, true, false, ◌&&◌, cond, ℕ, suc, ◌+◌, ◌-◌, ◌*◌, ◌^◌, ◌≤◌, ◌<◌, T, ltb, eqb, ℤ, pos, Float}
-use Rattle.std.proofs.Common.{sym, ap, subst, ◌∙◌, true≢false, zero-le, le_trans, le_of_eq, lt_of_lt_of_le, le_of_mul_le_mul_right, mul_assoc, zero-lt-suc, zero-mul, mul-le-mul, mul-pos, mul-le-mul_right, arith, ltb→lt, eqb→eq, pow-add, pow_mono}
+use Rattle.std.proofs.Common.{sym, ap, subst, ◌∙◌, true≢false, zero-le, le_trans, le_of_eq, lt_of_lt_of_le, le_of_mul-le-mul_right, mul_assoc, zero-lt-suc, zero-mul, mul-le-mul, mul-pos, mul-le-mul_right, arith, ltb→lt, eqb→eq, pow-add, pow_mono}
 use Rattle.std.specs.Bool.{beq}
 use Rattle.std.proofs.Math.Pow.{pow-lt}
 use Rattle.std.specs.Float.{nan, inf, fin, binary64}
@@ -60,7 +60,7 @@ size_of-le k (fin false m e) (inf u) p v t = absurd v
 size_of-le k (fin false m e) (fin true n d) p v t = absurd (true≢false v.0)
 size_of-le k (fin false m e) (fin false n d) p v t =
     let w : n * up d ≡ 2 ^ k * down d = omega (arith, v.1) in
-    le_of_mul_le_mul_right (le_trans (crossed m e n d t) (le_of_eq (ap (λ (z : ℕ). z * down e) w ∙ swapped (2 ^ k) (down d) (down e)))) (down_pos d)
+    le_of_mul-le-mul_right (le_trans (crossed m e n d t) (le_of_eq (ap (λ (z : ℕ). z * down e) w ∙ swapped (2 ^ k) (down d) (down e)))) (down_pos d)
   where
     swapped : (a b c : ℕ) → a * b * c ≡ a * c * b
     swapped a b c = omega arith
@@ -215,7 +215,7 @@ at_of_le k (fin false a b) nan v p t = absurd p
 at_of_le k (fin false a b) (inf s) v p t = p
 at_of_le k (fin false a b) (fin true m e) v p t = absurd (true≢false p)
 at_of_le k (fin false a b) (fin false m e) v p t =
-    (refl, le_of_mul_le_mul_right (le_trans (le_of_eq (swap k (down e) (down b) ∙ ap (λ (z : ℕ). z * down e) (sym (value a (up b) k (down b) v.1)))) (crossed a b m e t)) (down_pos b))
+    (refl, le_of_mul-le-mul_right (le_trans (le_of_eq (swap k (down e) (down b) ∙ ap (λ (z : ℕ). z * down e) (sym (value a (up b) k (down b) v.1)))) (crossed a b m e t)) (down_pos b))
 
 pub round-at_least : (k n d : ℕ) → k ≤ 2 ^ 53 → 0 < d → k * d ≤ n → AtLeast k (round binary64 false n d)
 round-at_least k n d L D h =

@@ -1,7 +1,7 @@
 -- Values of size 1 at most, with a sign: products, quotients by what is 1 at least, and 1 less such a value are of size 1 at most too, whatever is
 -- rounded. So what a program computes as 1 - z, from a z in 0 to 1, is in 0 to 1. Assumes nothing.
 use Rattle.std.specs.Prelude.{◌≡◌, refl, ℕ, ◌+◌, ◌-◌, ◌*◌, ◌≤◌, ◌<◌, Bool, true, false, not, cond, T, ltb, eqb, Float, ℤ}
-use Rattle.std.proofs.Common.{sym, ap, ◌∙◌, subst, zero-le, le_trans, le_of_eq, le_of_mul_le_mul_right, mul_comm, lt_of_lt_of_le, zero-lt-suc, zero-mul, mul-le-mul, mul-pos, arith, true≢false, ltb→lt, eqb→eq, pow_pos}
+use Rattle.std.proofs.Common.{sym, ap, ◌∙◌, subst, zero-le, le_trans, le_of_eq, le_of_mul-le-mul_right, mul_comm, lt_of_lt_of_le, zero-lt-suc, zero-mul, mul-le-mul, mul-pos, arith, true≢false, ltb→lt, eqb→eq, pow_pos}
 use Rattle.std.specs.Float.{nan, inf, fin, Format, binary64}
 use Rattle.std.specs.Float.Ieee.{prec, unlike, up, down, round, neg, sum, add, sub, mul, div, le, of_bits}
 use Rattle.std.specs.Float.Ieee.Fits.{down_pos}
@@ -33,7 +33,7 @@ small_of_le (fin false m e) (inf u) p v t = absurd v
 small_of_le (fin false m e) (fin true n d) p v t = absurd (true≢false v.0)
 small_of_le (fin false m e) (fin false n d) p v t =
     let w : n * up d ≡ down d = omega (arith, v.1) in
-    (refl, le_of_mul_le_mul_right (le_trans (tested (m * up e * down d) (n * up d * down e) (eqb (m * up e * down d) (n * up d * down e)) (eqb→eq (m * up e * down d) (n * up d * down e)) t) (le_of_eq (ap (λ (z : ℕ). z * down e) w ∙ mul_comm (down d) (down e)))) (down_pos d))
+    (refl, le_of_mul-le-mul_right (le_trans (tested (m * up e * down d) (n * up d * down e) (eqb (m * up e * down d) (n * up d * down e)) (eqb→eq (m * up e * down d) (n * up d * down e)) t) (le_of_eq (ap (λ (z : ℕ). z * down e) w ∙ mul_comm (down d) (down e)))) (down_pos d))
 
 pub neg_small : (s : Bool) (x : Float) → Small s x → Small (not s) (neg x)
 unfolding neg

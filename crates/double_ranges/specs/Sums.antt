@@ -1,6 +1,6 @@
 -- Sums, and products with a constant: how they lie to what they were made of. Assumes nothing.
 use Rattle.std.specs.Prelude.{◌≡◌, refl, Bool, not, ◌&&◌, ◌||◌, cond, ℕ, zero, suc, ◌+◌, ◌-◌, ◌*◌, ◌^◌, ◌≤◌, ◌<◌, T, ltb, eqb, ℤ, Float}
-use Rattle.std.proofs.Common.{sym, ap, ◌∙◌, true≢false, zero-le, le_trans, le_of_eq, le_refl, le_of_mul_le_mul_right, zero-lt-suc, zero-mul, mul-pos, mul-le-mul_right, arith, lt→ltb, pow_pos, ltb-false, eq-eqb}
+use Rattle.std.proofs.Common.{sym, ap, ◌∙◌, true≢false, zero-le, le_trans, le_of_eq, le_refl, le_of_mul-le-mul_right, zero-lt-suc, zero-mul, mul-pos, mul-le-mul_right, arith, lt→ltb, pow_pos, ltb-false, eq-eqb}
 use Rattle.std.proofs.Math.Path.{subst}
 use Rattle.std.proofs.Math.Bool.{true, false}
 use Rattle.std.specs.Float.Ieee.{nan, binary64, low, emax, unlike, up, down, round, neg, add, sum, mul, div, le, of_bits, fits}
@@ -33,7 +33,7 @@ own (suc m) e t =
 
 -- x / d is a / c, and at most n / k: so is a / c
 less : (x d a c n k : ℕ) → 0 < d → x * c ≡ a * d → x * k ≤ n * d → a * k ≤ n * c
-less x d a c n k D h l = le_of_mul_le_mul_right (le_trans (le_of_eq (one a k d ∙ ap (λ (z : ℕ). z * k) (sym h) ∙ two x c k)) (le_trans (mul-le-mul_right c l) (le_of_eq (two n d c)))) D
+less x d a c n k D h l = le_of_mul-le-mul_right (le_trans (le_of_eq (one a k d ∙ ap (λ (z : ℕ). z * k) (sym h) ∙ two x c k)) (le_trans (mul-le-mul_right c l) (le_of_eq (two n d c)))) D
   where
     one : (a k d : ℕ) → a * k * d ≡ a * d * k
     one a k d = omega arith
@@ -42,7 +42,7 @@ less x d a c n k D h l = le_of_mul_le_mul_right (le_trans (le_of_eq (one a k d �
     two x c k = omega arith
 
 more : (x d a c n k : ℕ) → 0 < d → x * c ≡ a * d → n * d ≤ x * k → n * c ≤ a * k
-more x d a c n k D h l = le_of_mul_le_mul_right (le_trans (le_of_eq (two n c d)) (le_trans (mul-le-mul_right c l) (le_of_eq (two x k c ∙ ap (λ (z : ℕ). z * k) h ∙ two a d k)))) D
+more x d a c n k D h l = le_of_mul-le-mul_right (le_trans (le_of_eq (two n c d)) (le_trans (mul-le-mul_right c l) (le_of_eq (two x k c ∙ ap (λ (z : ℕ). z * k) h ∙ two a d k)))) D
   where
     two : (x c k : ℕ) → x * c * k ≡ x * k * c
     two x c k = omega arith

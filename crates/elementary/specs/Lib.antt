@@ -1,7 +1,5 @@
 pub mod Exp
 pub mod Ln
 pub mod LnGamma
-pub mod Scaling
 pub mod ExpRange
-pub mod LnRange
 pub mod GammaRange

@@ -22,7 +22,7 @@ double s = record { m = mul binary64 s.m two_f; halvings = s.halvings; doublings
 abbrev pub from1 : Scaled → Bool
 from1 s = not (lt s.m one_f)
 
--- as many halvings or doublings as any finite double needs: `specs/Scaling.antt` shows that no loop is cut short
+-- as many halvings or doublings as any finite double needs: `proofs/Scaling.antt` shows that no loop is cut short
 abbrev pub max_scalings : ℕ
 max_scalings = 1074
 

@@ -17,7 +17,7 @@ shift s = record { x = add binary64 s.x one_f; c = add binary64 s.c (ln_of s.x) 
 abbrev pub from16 : Shifted → Bool
 from16 s = not (lt s.x sixteen_f)
 
--- as many turns as any x above 0 needs: `specs/Scaling.antt` shows that the loop is not cut short
+-- as many turns as any x above 0 needs: `proofs/Scaling.antt` shows that the loop is not cut short
 abbrev pub max_shifts : ℕ
 max_shifts = 16
 

@@ -1,9 +1,7 @@
 -- Whether two doubles are one and the same, above 0. As data: of two values that a double can have, that is the test `==` (`test_same`).
 -- Assumes nothing.
-use Rattle.std.specs.Prelude.{◌≡◌, ℕ, zero, suc, ◌+◌, ◌-◌, ◌*◌, ◌/◌, ◌^◌, ◌<◌, ◌≤◌, Bool, true, false, cond, ◌&&◌, ◌||◌, T, ℤ, pos, negsuc, ◌==◌, nat_lt, refl, Float}
-use Rattle.std.proofs.Common.{sym, ap, subst, ◌∙◌, true≢false, mul_right_comm, mul-one, mul-pos, arith, ltb→lt, eqb→eq, lt→ltb, le→leb}
-use Rattle.std.specs.Bool.{beq}
-use Rattle.std.proofs.lemmas.Bool.{false≢true}
+use Rattle.std.specs.Prelude.{◌≡◌, ℕ, ◌+◌, ◌-◌, ◌*◌, ◌/◌, ◌^◌, ◌<◌, ◌≤◌, Bool, true, false, cond, ◌&&◌, T, ℤ, pos, negsuc, ◌==◌, nat_lt, refl, Float}
+use Rattle.std.proofs.Common.{sym, ap, subst, ◌∙◌, mul_right_comm, mul-pos, arith, ltb→lt, eqb→eq, lt→ltb, le→leb}
 use Rattle.std.proofs.Math.Dec.{eqb_refl}
 use Rattle.std.specs.Float.{nan, inf, fin, Format, binary64}
 use Rattle.std.specs.Float.Ieee.{prec, low, up, down, lt, eq, fits, size, hid, top, of_bits, to_bits, of_int, to_unsigned, in_float}

@@ -1,6 +1,8 @@
 // Small functions on numbers that every layer uses: the lesser and the greater of two, a difference that stops at 0,
 // ranges, sameness of doubles, doubles by their bit patterns, and Rust's casts from a double. For all numbers: no public
 // function has a `requires`.
+#![tactic(auto)]
+
 mod bits;
 mod casts;
 mod ranges;

@@ -17,7 +17,7 @@ use Rattle.double_ranges.specs.Constants.{one_size, one_plus, two_size, two_plus
 use Rattle.double_ranges.specs.Loops as Grow
 use Rattle.elementary.specs.declared.Scaled.{Scaled}
 use Rattle.elementary.specs.Ln.{log10_e, unscaled, halve, below2, double, from1, halved, scaled, ratio, first, ln_term, ln_series, exponent, ln_scaled, ln_of, log10_of}
-use Rattle.elementary.specs.Scaling.{ln_scales}
+use Rattle.elementary.proofs.Scaling.{ln_scales}
 use Rattle.elementary.specs.ExpRange.{whole-at_least}
 
 -- ---- constants
