@@ -1,12 +1,11 @@
 -- The cut: of all the cells that qualify from index min − 1 to max − 1 it is a smallest one, and of those the highest. So the walk of the definition says what
 -- document 01 says: "The smallest wins, the higher index on ties". For cells of any content. Assumes nothing.
-use mathlib.Core.Path.{◌≡◌, refl, sym, ap, subst, ◌∙◌}
-use mathlib.Core.Bool.{Bool, true, false, cond, ◌&&◌, ◌||◌, true≢false, false≢true}
+use mathlib.Core.Path.{◌≡◌, refl, sym, subst, ◌∙◌}
+use mathlib.Core.Bool.{Bool, true, false, cond, ◌&&◌, ◌||◌, true≢false}
 use mathlib.Core.List.{List}
 use mathlib.Core.Logic.{◌⊎◌, inl, inr}
 use Prim.Native.Nat.{ℕ, zero, suc, ◌+◌, ◌-◌, ◌≤◌, ◌<◌}
 use native.Mathlib.Nat.{eq-or-lt_of_le}
-use native.Mathlib.Numerals.{sub-one}
 use native.Mathlib.Omega.{arith}
 use lib.Dec.{T, leb, ltb, eqb}
 use lib.ListN.{length}
@@ -14,7 +13,7 @@ use borrow.Author.Tests.{leb-true, le-leb, ne_eqb}
 use lib.Ieee.{Float, le, lt}
 use Rattle.lists.specs.Loops.{down}
 use Rattle.lists.specs.Tests.{and_left, and_right}
-use Rattle.double_ranges.specs.Order.{AtMost, Number, at_most_refl, at_most_of_lt, at_most_of_le, at_most_of_not_lt, at_most_not_lt, number_below, lt-at_most}
+use Rattle.double_ranges.specs.Order.{Number, at_most_refl, at_most_of_lt, at_most_of_le, at_most_of_not_lt, at_most_not_lt, number_below, lt-at_most}
 use Rattle.activity_profile.specs.Loci.{cell}
 use Rattle.activity_profile.specs.Pop.{qualifies, beats, replaces, better, best_cut_site}
 

@@ -4,7 +4,7 @@ use mathlib.Core.Path.{◌≡◌}
 use mathlib.Core.Bool.{Bool, true, false}
 use native.Mathlib.Omega.{arith}
 use lib.Dec.{eqb}
-use borrow.Author.Tests.{ltb-true, ltb-false, leb-true, eqb-true, eqb-false, not_false, lt-ltb, eq-eqb}
+use borrow.Author.Tests.{ltb-true, ltb-false, leb-true, eqb-true, eqb-false, not-false, lt-ltb, eq-eqb}
 use Rattle.activity_profile.specs.declared.BandPassActivityProfile.{BandPassActivityProfile}
 use Rattle.activity_profile.specs.declared.ActivityProfileState.{ActivityProfileState}
 use Rattle.activity_profile.specs.Verdict.{granted}
@@ -35,7 +35,7 @@ pub record Whole (p : BandPassActivityProfile) (n : ℕ) : Type 0 where
 pub whole_is : (p : BandPassActivityProfile) (n : ℕ) → broken p n ≡ false → Whole p n
 unfolding broken placed
 whole_is p n e = record {
-  settings = search (not_false, or_left);
+  settings = search (not-false, or_left);
   filter = search (ltb-false, or_left, or_right);
   cells = search (ltb-false, or_left, or_right);
   none = λ h. let v : vacant p ≡ true = search (but, eq-eqb, or_left, or_right) in search (eqb-true, and_left, and_right);

@@ -19,3 +19,4 @@ pub mod Idle
 pub mod Enough
 pub mod PopsEnd
 pub mod OneFewer
+pub mod OneCellFewer

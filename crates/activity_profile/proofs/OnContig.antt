@@ -1,6 +1,6 @@
 -- A region lies on the contig: a record whose cells do not is refused as broken, and the padding is cut at the contig's ends. Assumes nothing.
-use Prim.Native.Nat.{ℕ, ◌+◌, ◌-◌, ◌≤◌, ◌<◌, min, max}
-use mathlib.Core.Path.{◌≡◌, refl, ap, subst}
+use Prim.Native.Nat.{ℕ, ◌+◌, ◌-◌, ◌≤◌}
+use mathlib.Core.Path.{◌≡◌, refl, subst}
 use mathlib.Core.Bool.{Bool, true}
 use mathlib.Core.List.{List}
 use native.Mathlib.Omega.{arith}
@@ -14,7 +14,7 @@ use Rattle.activity_profile.specs.declared.BandPassActivityProfile.{BandPassActi
 use Rattle.activity_profile.specs.declared.ActivityProfileRegion.{ActivityProfileRegion}
 use Rattle.activity_profile.specs.Verdict.{Verdict, refusal, granted}
 use Rattle.activity_profile.specs.Profile.{settings_in_range}
-use Rattle.activity_profile.specs.Pop.{PopAnswer, refused_pop, empty_pop, held_pop, region_pop, Turn, empty, held, ready, pop_verdict, turn, kept, pop_size, region_with, region_of, pop_answer_by, pop_answer}
+use Rattle.activity_profile.specs.Pop.{PopAnswer, refused_pop, empty_pop, held_pop, region_pop, Turn, empty, held, ready, pop_verdict, turn, pop_size, region_with, region_of, pop_answer_by, pop_answer}
 use Rattle.activity_profile.proofs.Cuts.{Cut, cut_is}
 
 -- on a contig of this length

@@ -1,6 +1,6 @@
 -- 02, U5: with one cell fewer than `cells_needed` says, a list of adds whose last is refused 10. Zeros need a cell each and are held up to max + D, and 1.0 at
 -- that locus reaches F further. Assumes nothing.
-use mathlib.Core.Path.{◌≡◌, refl, sym, ap, subst, ◌∙◌}
+use mathlib.Core.Path.{◌≡◌, refl, sym, ap, ◌∙◌}
 use mathlib.Core.Bool.{Bool, true, false, cond, ◌&&◌}
 use mathlib.Core.List.{List, [], ◌∷◌}
 use Prim.Native.Nat.{ℕ, zero, suc, ◌+◌, ◌-◌, ◌<◌, ◌≤◌, min, max}
@@ -222,15 +222,3 @@ fewer contig len settings i j p e most n c cells below kernel ek z =
     } in
     one_fewer_at p (length cells) most kernel z asked.some ek cells (min (suc (length cells)) k) (omega (arith, asked.some)) start
     (omega (arith, f.same_distance)) (omega arith) (omega (arith, f.same_length)) (omega (arith, asked.is, f.same_length))
-
--- "Where the contig length is at least the formula, a list is shown for which one cell fewer is refused." Where it is shorter as well, so the answer is exact
--- for every max, distance, filter size and contig length.
-pub one_fewer : (contig len : ℕ) (settings : BandPassActivityProfileParams) (i j : ℕ) (p : BandPassActivityProfile) → making contig len settings i j ≡ answered p
-    → (most n : ℕ) → cells_needed most settings.max_prob_propagation_distance p.filter_size len ≡ answered n
-    → (cells : List Float) → suc (length cells) ≡ n → (kernel : List Float) → length kernel ≡ band p.filter_size → (z : Sizes)
-    → TooFew p cells kernel most (one_locus most settings.max_prob_propagation_distance p.filter_size len) z
-one_fewer contig len settings i j p e most n c cells one kernel ek z =
-    let a = answered_is most settings.max_prob_propagation_distance p.filter_size len n c in
-    let k = one_locus most settings.max_prob_propagation_distance p.filter_size len in
-    let same : min (suc (length cells)) k ≡ k = omega (arith, a.is) in
-    subst (λ (q : ℕ). TooFew p cells kernel most q z) same (fewer contig len settings i j p e most n c cells (omega arith) kernel ek z)

@@ -14,7 +14,7 @@ use Rattle.activity_profile.specs.declared.ActivityProfileState.{ActivityProfile
 use Rattle.activity_profile.specs.Verdict.{granted}
 use Rattle.activity_profile.specs.Making.{making}
 use Rattle.activity_profile.specs.Pop.{Turn, empty, held, ready, pop_verdict, turn, kept, pop_size, region_of, rest, region_pop, pop_answer_by, pop_answer}
-use Rattle.activity_profile.specs.Run.{Call, Add, Pop, Lent, step, after}
+use Rattle.activity_profile.specs.Run.{Call, Add, Lent, step, after}
 use Rattle.activity_profile.specs.Maker.{Sizes, pop_of, at_held, at_empty, past_region, none, more, pops_by, PopsEnd, adds_in, FedWith}
 use Rattle.activity_profile.proofs.Facts.{Whole}
 use Rattle.activity_profile.proofs.Cuts.{cut_is}

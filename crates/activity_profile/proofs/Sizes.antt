@@ -8,7 +8,7 @@ use lib.Dec.{eqb}
 use lib.ListN.{length, take, length-take}
 use lib.Seq.{get_or-take}
 use lib.Ieee.{Float, nan}
-use borrow.Author.Tests.{eqb-true, not_false}
+use borrow.Author.Tests.{eqb-true, not-false}
 use Rattle.activity_profile.specs.Loci.{cell}
 use Rattle.activity_profile.specs.Pop.{above, other_side, replaces, better, best_cut_site, or_most, size_of}
 use Rattle.lists.specs.Loops.{down, first_at, first_at-le, first_at_before, first_at_some}
@@ -17,7 +17,7 @@ use Rattle.lists.specs.Tests.{and_right, beq_true, beq_refl}
 -- ---- the front
 
 same_side : (t : Float) (b : Bool) (x : Float) → other_side t b x ≡ false → above t x ≡ b
-same_side t b x e = beq_true (above t x) b (not_false (beq (above t x) b) e)
+same_side t b x e = beq_true (above t x) b (not-false (beq (above t x) b) e)
 
 own_side : (t x : Float) → other_side t (above t x) x ≡ false
 own_side t x = rw beq_refl

@@ -8,7 +8,7 @@ use native.Mathlib.Omega.{arith}
 use lib.Dec.{ltb}
 use lib.ListN.{length, take, drop}
 use lib.Ieee.{Float, nan}
-use borrow.Author.Tests.{lt-ltb, le-ltb, le-leb, lt-leb, eqb-true, not_false}
+use borrow.Author.Tests.{lt-ltb, le-ltb, le-leb, lt-leb, eqb-true, not-false}
 use Rattle.lists.specs.Each.{each, each_same}
 use Rattle.lists.specs.Window.{within, each_window, lt_or_le}
 use Rattle.activity_profile.specs.declared.BandPassActivityProfile.{BandPassActivityProfile}
@@ -50,7 +50,7 @@ count_on p n w = go p.count refl
 
 kernel_is : (p : BandPassActivityProfile) (n k : ℕ) (s : ActivityProfileState) → add_verdict p n k s ≡ granted → k ≡ 2 * p.filter_size + 1
 unfolding add_verdict
-kernel_is p n k s e = search (eqb-true, not_false, or_right, this_not)
+kernel_is p n k s e = search (eqb-true, not-false, or_right, this_not)
 
 pub reached_is : (p : BandPassActivityProfile) (n k : ℕ) (s : ActivityProfileState) → add_verdict p n k s ≡ granted → Reached p s n k
 unfolding lowest highest needed

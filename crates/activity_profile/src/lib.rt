@@ -2,17 +2,19 @@
 // Rust's activity_profile.rs).
 //
 // The record goes in by value and comes back; the activity at each locus stands in cells that the caller lends.
+#![tactic(auto)]
+
 use genome::{GenomePosition, Refusal};
 
 // What a locus was scored on: bases alone, or a count of clipped bases.
-#[derive(Drop)]
+#[derive(Clone, Copy)]
 pub enum ActivityEvidence {
     Plain,
     HighQualitySoftClips { clip_bases: u32 },
 }
 
 // One scored locus.
-#[derive(Drop)]
+#[derive(Clone, Copy)]
 pub struct ActivityProfileState {
     pub contig: u32,
     pub pos: GenomePosition,
@@ -23,7 +25,7 @@ pub struct ActivityProfileState {
 
 // The profile of one contig. Cell i of the first `count` lent cells is the activity at region_start + i; at count 0 region_start and
 // last_input_pos are 0, which is no position.
-#[derive(Drop)]
+#[derive(Clone, Copy)]
 pub struct BandPassActivityProfile {
     pub contig: u32,
     pub contig_len: u32,
@@ -37,7 +39,7 @@ pub struct BandPassActivityProfile {
 
 // A region handed out: its loci run from start to end, both included, and the padded bounds stay on the contig. Its peak is the largest of
 // its cells, as the pop found them, the first of equals, and stands at peak_pos; a first cell that is NaN is the peak (document 02, U2).
-#[derive(Drop)]
+#[derive(Clone, Copy)]
 pub struct ActivityProfileRegion {
     pub contig: u32,
     pub start: u32,
@@ -51,35 +53,35 @@ pub struct ActivityProfileRegion {
 }
 
 // What a making answers.
-#[derive(Drop)]
+#[derive(Clone, Copy)]
 pub enum Made {
     Profile(BandPassActivityProfile),
     Refused(Refusal),
 }
 
 // The cells that a maker must provide, or the first refusal that applies to the numbers given.
-#[derive(Drop)]
+#[derive(Clone, Copy)]
 pub enum CellsNeeded {
     Cells(u32),
     Refused(Refusal),
 }
 
 // Whether an add is granted, or the first refusal that applies to it.
-#[derive(Drop)]
+#[derive(Clone, Copy)]
 pub enum AddVerdict {
     Granted,
     Refused(Refusal),
 }
 
 // What an add answers: the record as it is after it, or as it was.
-#[derive(Drop)]
+#[derive(Clone, Copy)]
 pub enum Added {
     Accepted(BandPassActivityProfile),
     Refused(Refusal, BandPassActivityProfile),
 }
 
 // What a pop answers, with the record as it is after it.
-#[derive(Drop)]
+#[derive(Clone, Copy)]
 pub enum Popped {
     Ready(ActivityProfileRegion, BandPassActivityProfile),
     Held(BandPassActivityProfile),

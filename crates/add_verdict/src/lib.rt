@@ -1,5 +1,7 @@
 // Document 01, 'Adding a locus': whether an add is granted, or which refusal it meets, and the cells in use after it. No
 // public function has a `requires`.
+#![tactic(auto)]
+
 ghost use Rattle.std.specs.Prelude.{◌≡◌, ◌≤◌, ltb};
 ghost use Rattle.activity_profile.specs.Add.{first_locus, highest, needed, broken_add, other_contig, off_contig, no_activity, not_next};
 ghost use Rattle.activity_profile.specs.Add.{add_verdict, add_verdict_of};

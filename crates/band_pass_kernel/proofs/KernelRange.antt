@@ -1,14 +1,14 @@
 -- Within document 01's ranges every entry of a kernel is in 0 to 1, and so none is a NaN. Assumes nothing.
-use Rattle.std.proofs.Common.{◌≡◌, ℕ, zero, suc, ◌+◌, ◌-◌, ◌*◌, ◌^◌, ◌<◌, ◌≤◌, true, false, ◌&&◌, T, List, [], ◌∷◌, length, get_or, ℤ, pos, sym, refl, ap, ◌∙◌, subst, le_trans, mul-pos, zero-mul, add-one, arith, lit≤}
-use lib.Ieee.{Float, nan, inf, fin, binary64, up, down, of_bits, of_int, round, add, sub, mul, div, neg, lt, le, fits}
-use lib.Ieee.Fits.{add-fits, div-fits, down_pos}
-use Rattle.lists.specs.Each.{each, get_or-each, length-each, tabulate, length-tabulate, get_or-tabulate}
+use Rattle.std.proofs.Common.{◌≡◌, ℕ, zero, suc, ◌+◌, ◌<◌, ◌≤◌, true, false, T, List, [], ◌∷◌, length, get_or, pos, sym, refl, ap, ◌∙◌, subst, arith, lit≤}
+use lib.Ieee.{Float, nan, inf, fin, binary64, of_bits, of_int, add, sub, mul, div, neg, lt, le, fits}
+use lib.Ieee.Fits.{add-fits, div-fits}
+use Rattle.lists.specs.Each.{get_or-each, tabulate, length-tabulate, get_or-tabulate}
 use Rattle.lists.specs.Loops.{foldl}
 use Rattle.lists.specs.Loops as Loops
 use Rattle.lists.specs.Tests.{and_left, and_right}
 use Rattle.doubles.specs.Constants.{zero_f, one_f, two_f}
 use Rattle.double_ranges.specs.Order.{AtMost, Number, at_most_of_le, at_most_refl, at_most_trans}
-use Rattle.double_ranges.specs.Sign.{Plus, Down, down-neg}
+use Rattle.double_ranges.specs.Sign.{Plus, down-neg}
 use Rattle.double_ranges.specs.Size.{Size, size_mono, neg_size, add_size, sub_size, mul_size, whole_size, add-plus}
 use Rattle.double_ranges.specs.Small.{Small, unit_of_small}
 use Rattle.double_ranges.specs.Least.{Least, least_up, plus_up, size_down, mul_least, div_least_size}

@@ -1,5 +1,7 @@
 // The band-pass kernel: document 01, 'Kernel', after the Rust's activity_profile.rs. The caller lends two buffers; the full kernel is
 // written to the first and a narrower one, where there is one, to the second. No public function has a `requires`.
+#![tactic(auto)]
+
 mod gaussian;
 mod resolve;
 
@@ -8,7 +10,7 @@ use genome::Refusal;
 pub use resolve::{copy_kernel, kernel_in};
 
 // The settings of a band-pass profile.
-#[derive(Drop)]
+#[derive(Clone, Copy)]
 pub struct BandPassActivityProfileParams {
     pub max_prob_propagation_distance: u32,
     pub active_prob_threshold: f64,
@@ -18,7 +20,7 @@ pub struct BandPassActivityProfileParams {
 }
 
 // What resolving the filter answers: the filter size of the kernel that now stands in its buffer, or a refusal.
-#[derive(Drop)]
+#[derive(Clone, Copy)]
 pub enum ResolvedFilter {
     FilterSize(u32),
     Refused(Refusal),

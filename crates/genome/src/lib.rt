@@ -1,14 +1,16 @@
 // Units on the genome, the longest contig, the byte of a missing quality, and the refusals with their numbers.
 // No public function has a `requires`.
+#![tactic(auto)]
+
 ghost use Rattle.std.specs.Prelude.{◌≡◌};
 ghost use Rattle.genome.specs.Refusals.{number_of};
 
 // A position on a contig, from 1 on as in the SAM specification. The Rust's is 64-bit; document 01's positions are 32-bit.
-#[derive(Drop)]
+#[derive(Clone, Copy)]
 pub struct GenomePosition(pub u32);
 
 // A sample's ploidy.
-#[derive(Drop)]
+#[derive(Clone, Copy)]
 pub struct Ploidy(pub u8);
 
 // The longest contig, and so the last position: document 01, 'Ranges'.
@@ -18,7 +20,7 @@ pub const MAX_POSITION: u32 = 1_073_741_823;
 pub const MISSING_QUALITY: u8 = 255;
 
 // Document 01's refusals, and document 02's.
-#[derive(Drop)]
+#[derive(Clone, Copy)]
 pub enum Refusal {
     // A setting outside its range.
     Setting,

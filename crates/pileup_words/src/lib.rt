@@ -1,5 +1,7 @@
 // The 32-bit words of a stream: their kinds and fields, the observation that a word holds, and the event that a word is.
 // No public function has a `requires`.
+#![tactic(auto)]
+
 mod event;
 mod observation;
 
@@ -21,7 +23,7 @@ pub const NEXT_TO_CLIP: u32 = 0x0008_0000;
 pub const FIELD: u32 = 0x0100_0000;
 
 // One read at a locus.
-#[derive(Drop)]
+#[derive(Clone, Copy)]
 pub struct PileupObservation {
     pub qual: u8,
     pub is_deletion: bool,
@@ -31,7 +33,7 @@ pub struct PileupObservation {
 }
 
 // What a stream brings: a word of each kind, a remainder of bytes that is no whole word, and the end of the input.
-#[derive(Drop)]
+#[derive(Clone, Copy)]
 pub enum StreamEvent {
     Locus { position: u32 },
     Observation { word: u32 },

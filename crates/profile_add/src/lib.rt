@@ -1,4 +1,6 @@
 // Document 01, 'Adding a locus': the add itself, and what it writes to the cells. No public function has a `requires`.
+#![tactic(auto)]
+
 ghost use Rattle.std.specs.Prelude.{◌≡◌, ◌+◌, ◌≤◌, ◌<◌, length};
 ghost use Rattle.activity_profile.specs.Verdict.{granted};
 ghost use Rattle.lists.specs.Each.{each, up_to};
@@ -91,7 +93,7 @@ fn added_profile(p: BandPassActivityProfile, s: ActivityProfileState) -> BandPas
 // ---- the window
 
 // The stretch of the cells that receives, from lo up to hi, the kernel's entry at its front, and how many of its cells are held.
-#[derive(Drop)]
+#[derive(Clone, Copy)]
 struct Window {
     lo: usize,
     hi: usize,

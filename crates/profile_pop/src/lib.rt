@@ -1,4 +1,6 @@
 // Document 01, 'Popping', and the peak of document 02, U2. No public function has a `requires`.
+#![tactic(auto)]
+
 ghost use Rattle.std.specs.Prelude.{◌≡◌, ◌+◌, ◌-◌, ◌≤◌, ◌<◌, length};
 ghost use Rattle.lists.specs.Each.{each};
 ghost use Rattle.activity_profile.specs.Verdict.{granted};

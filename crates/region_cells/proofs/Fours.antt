@@ -8,7 +8,6 @@ use lib.ListN.{length, get_or, drop}
 use lib.Ieee.{Float}
 use Rattle.lists.specs.Loops.{along, first_at, first_at-turn}
 use Rattle.lists.specs.Tests.{or_left, or_right}
-use Rattle.activity_profile.specs.Loci.{cell}
 use Rattle.activity_profile.specs.Peak.{leads}
 use Rattle.region_cells.specs.Fours.{one_of_four, above_at}
 
