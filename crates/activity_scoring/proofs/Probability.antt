@@ -14,12 +14,12 @@ use Rattle.genotype_likelihoods.specs.Lengths.{length-likelihoods}
 use Rattle.genotype_posterior.specs.Phred.{pl_round_trip}
 use Rattle.genotype_posterior.specs.Posterior.{posterior}
 use Rattle.genotype_posterior.specs.PriorRange.{InRange, least_heterozygosity, least_deviation}
-use Rattle.genotype_posterior.specs.Probability.{zero_unit, rounded_size, rounded_length, posterior_unit}
+use Rattle.genotype_posterior.proofs.Probability.{zero_unit, rounded_size, rounded_length, posterior_unit}
 use Rattle.activity_profile.specs.declared.ActivityProfileState.{ActivityProfileState}
 use Rattle.activity_profile.specs.Add.{no_activity}
 use Rattle.activity_scoring.specs.Mean.{mean_of}
 use Rattle.activity_scoring.specs.Score.{in_range, max_depth, all_observations, evidence_of, activity_of, state, empty_pile, state_with, state_of, score_with, score_of}
-use Rattle.activity_scoring.specs.Skipped.{told}
+use Rattle.activity_scoring.proofs.Skipped.{told}
 use Rattle.activity_scoring.proofs.Counts.{ploidy_at_most}
 
 het_low : (s : HaplotypeCallerActivityScoringParams) → settings_in_range s ≡ true → le least_heterozygosity s.snp_heterozygosity ≡ true

@@ -1,4 +1,3 @@
 pub mod Mean
 pub mod Score
-pub mod Skipped
 pub mod Tables

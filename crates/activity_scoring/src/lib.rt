@@ -1,5 +1,7 @@
 // Scoring a locus: from a pile of observation words to the state that an add takes. Document 01, 'Scoring', after the
 // Rust's activity_scoring.rs and minimal_genotyping.rs. No public function has a `requires`.
+#![tactic(auto)]
+
 mod mean;
 mod score;
 mod tables;
@@ -15,14 +17,14 @@ pub use score::{
 pub use tables::fill_tables;
 
 // What scoring answers.
-#[derive(Drop)]
+#[derive(Clone, Copy)]
 pub enum Scored {
     Score(ActivityProfileState),
     Refused(Refusal),
 }
 
 // What filling the tables answers.
-#[derive(Drop)]
+#[derive(Clone, Copy)]
 pub enum Filling {
     Filled,
     // A setting outside its range, or a slice that is too short.
@@ -30,14 +32,14 @@ pub enum Filling {
 }
 
 // A mean of clip counts on its way: how many, and their mean.
-#[derive(Drop)]
+#[derive(Clone, Copy)]
 pub struct RunningMean {
     pub count: u64,
     pub mean: f64,
 }
 
 // A locus's probability of being active, and how far its likeliest genotype lies above the reference genotype.
-#[derive(Drop)]
+#[derive(Clone, Copy)]
 pub struct Activity {
     pub probability: f64,
     pub original: f64,

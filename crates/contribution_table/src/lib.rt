@@ -3,6 +3,8 @@
 // pile is a chain of additions. A table carries the ploidy and the weight that it was filled for, and is read only where
 // they are the call's. So the answers are genotype_likelihoods' own, bit for bit, for every table that
 // `fill_contribution_table` filled, for whatever settings. No public function has a `requires`.
+#![tactic(auto)]
+
 mod fill;
 mod likelihoods;
 
@@ -16,7 +18,7 @@ pub const HEADING: usize = 2;
 pub const ROWS: usize = 510;
 
 // The sums of four genotypes over some words, and how many of the words were not skipped.
-#[derive(Drop)]
+#[derive(Clone, Copy)]
 pub struct Sums {
     pub count: u64,
     pub a: f64,

@@ -1,5 +1,7 @@
 // The probability that a base of a quality is wrong, 10 to the power -quality/10 by document 01's steps: document 02's
 // constant table (U7), and the steps themselves. No public function has a `requires`.
+#![tactic(auto)]
+
 mod table;
 
 ghost use Rattle.std.specs.Prelude.{◌≡◌};

@@ -1,5 +1,7 @@
 // The log10 likelihoods of a sample's genotypes over a pile of observation words: document 01, 'Scoring', after the
 // Rust's activity_scoring.rs. No public function has a `requires`.
+#![tactic(auto)]
+
 mod contribution;
 mod likelihoods;
 mod observation;
@@ -11,7 +13,7 @@ pub use likelihoods::{calc_ref_vs_any_log10_genotype_likelihoods, subtract, weig
 pub use observation::{effective_qual, skip_observation};
 
 // The settings of scoring; those that the picker has no use for are left out.
-#[derive(Drop)]
+#[derive(Clone, Copy)]
 pub struct HaplotypeCallerActivityScoringParams {
     pub min_base_quality_score: u8,
     pub sample_ploidy: Ploidy,

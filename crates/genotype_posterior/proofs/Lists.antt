@@ -1,5 +1,5 @@
 -- The length of a list of priors that is read. Assumes nothing.
-use Rattle.std.proofs.Common.{◌≡◌, ℕ, ◌+◌, Bool, true, false, ◌&&◌, eqb, List, length, refl, ne_eqb, eqb-true}
+use Rattle.std.proofs.Common.{◌≡◌, ℕ, ◌+◌, true, false, eqb, List, length, ne_eqb, eqb-true}
 use lib.Ieee.{Float}
 use Rattle.lists.specs.Tests.{and_left}
 use Rattle.genotype_posterior.specs.Priors.{heading, are_for}

@@ -1,6 +1,5 @@
 pub mod Phred
 pub mod Posterior
-pub mod PriorRange
-pub mod Probability
 pub mod Priors
+pub mod PriorRange
 pub mod Alike

@@ -1,6 +1,8 @@
 // From log10 genotype likelihoods to the probability that a sample is not all reference: PL rounding and the posterior
 // (the Rust's activity_scoring.rs, after GATK's AlleleFrequencyCalculator). Over lent slices of any length and content:
 // no public function has a `requires`.
+#![tactic(auto)]
+
 mod phred;
 mod posterior;
 

@@ -1,1 +1,4 @@
 pub mod Walks
+pub mod Refused
+pub mod Missing
+pub mod Operations

@@ -12,7 +12,7 @@ use Rattle.lists.specs.Window.{lt_or_le}
 use mathlib.Core.Logic.{⊎_elim}
 use Rattle.genome.specs.Refusals.{Outcome, refused, answered}
 use Rattle.hq_soft_clip.specs.declared.Walk.{Walk}
-use Rattle.hq_soft_clip.specs.Operations.{by_arms}
+use Rattle.hq_soft_clip.proofs.Operations.{by_arms}
 use Rattle.hq_soft_clip.specs.SoftClips.{operation, span, is_high, with_base, count_high, high_of, clipped, walked, after, count_of, capped, capped_outcome}
 
 -- ---- a count of high qualities is no longer than the list

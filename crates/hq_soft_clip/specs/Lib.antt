@@ -1,4 +1,3 @@
 pub mod SoftClips
-pub mod Operations
 pub mod Refused
 pub mod Missing

@@ -1,5 +1,7 @@
 // The count of high-quality soft-clipped bases: document 01, 'Soft-clip count', after the Rust's hq_soft_clip.rs, with
 // the SAM specification's CIGAR operations. No public function has a `requires`.
+#![tactic(auto)]
+
 ghost use Rattle.std.specs.Prelude.{◌≡◌, ◌-◌, ◌≤◌, ◌<◌, min, length};
 ghost use Rattle.hq_soft_clip.specs.SoftClips.{with_base, count_high, passed, clipped, walked, capped, capped_outcome};
 ghost use Rattle.hq_soft_clip.specs.SoftClips.{clip_count, clip_count_of, walked_of};
@@ -7,7 +9,7 @@ ghost use Rattle.hq_soft_clip.specs.SoftClips.{clip_count, clip_count_of, walked
 use genome::{MISSING_QUALITY, Refusal};
 
 // What the count answers.
-#[derive(Drop)]
+#[derive(Clone, Copy)]
 pub enum SoftClips {
     Count(u64),
     Refused(Refusal),
@@ -15,14 +17,14 @@ pub enum SoftClips {
 
 // A walk along a read: how many of its bases have been passed, no further than there are qualities, and how many of them were clipped with
 // a high quality.
-#[derive(Drop)]
+#[derive(Clone, Copy)]
 pub struct Walk {
     pub at: usize,
     pub count: u64,
 }
 
 // What one word does to a walk.
-#[derive(Drop)]
+#[derive(Clone, Copy)]
 pub enum Walked {
     To(Walk),
     Refused(Refusal),

@@ -1,5 +1,7 @@
 // Sums of numbers that are given by their log10 (the Rust's activity_scoring.rs, after GATK's MathUtils). For every
 // double: no public function has a `requires`.
+#![tactic(auto)]
+
 mod pair;
 mod sums;
 

@@ -2,7 +2,7 @@
 use mathlib.Core.Path.{◌≡◌, refl, sym, ap, subst}
 use mathlib.Core.Bool.{Bool, true, false, cond, not}
 use mathlib.Core.List.{List, [], ◌∷◌, map}
-use Prim.Native.Nat.{ℕ, ◌≤◌}
+use Prim.Native.Nat.{ℕ}
 use lib.Dec.{T, lit≤}
 use lib.Ieee.{Float, binary64, of_bits, sub, lt, le}
 use Rattle.lists.specs.Loops.{foldl}
@@ -18,7 +18,7 @@ use Rattle.activity_profile.specs.Add.{no_activity}
 use Rattle.activity_scoring.specs.Score.{in_range, from_rounded, rounded_of, activity_of}
 use Rattle.activity_scoring.proofs.Probability.{activity_unit, true_of, state_unit}
 use Rattle.multi_sample_scoring.specs.Sets.{piles_left, clamped, with_sample, any_non_ref, set_state_with, set_state_of, set_score_of}
-use Rattle.multi_sample_scoring.specs.Accepted.{accepted_is}
+use Rattle.multi_sample_scoring.proofs.Accepted.{accepted_is}
 
 -- ---- in 0 to 1, by value
 

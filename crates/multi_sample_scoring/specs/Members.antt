@@ -1,16 +1,10 @@
 -- 02, U6: "Each member's skipped words and likelihoods are those it has alone, shown for any number of piles up to 64." Assumes nothing.
-use Rattle.std.specs.Prelude.{◌≡◌, refl, Bool, true, false, cond, List, [], ◌∷◌, map, ℕ, zero, suc, ◌+◌, ◌≤◌, ◌<◌, eqb, length, get_or, take, drop, Float}
-use Rattle.std.proofs.Common.{ap, ◌∙◌, not-suc-le-zero, arith, ne_eqb, length-drop, length-take-le, drop-drop}
-use Rattle.lists.specs.Loops.{foldl}
-use Rattle.lists.specs.Without.{without, foldl-without}
+use Rattle.std.specs.Prelude.{◌≡◌, Bool, List, [], map, ℕ, ◌+◌, ◌≤◌, ◌<◌, length, get_or, take, drop}
 use Rattle.genotype_likelihoods.specs.declared.HaplotypeCallerActivityScoringParams.{HaplotypeCallerActivityScoringParams}
 use Rattle.genotype_likelihoods.specs.Observation.{skipped}
-use Rattle.genotype_likelihoods.specs.Skipped.{likelihoods-without}
-use Rattle.activity_scoring.specs.declared.RunningMean.{RunningMean}
-use Rattle.activity_scoring.specs.Mean.{with_word, none}
 use Rattle.activity_scoring.specs.Score.{rounded_of}
-use Rattle.multi_sample_scoring.specs.Sets.{piles, total, piles_left, likelihoods_of, with_words, stratified_mean}
-use Rattle.multi_sample_scoring.specs.Passed.{with_length, count_left}
+use Rattle.multi_sample_scoring.specs.Sets.{piles, total, piles_left, likelihoods_of}
+use Rattle.multi_sample_scoring.specs.Passed.{count_left}
 
 -- ---- the statement
 
@@ -38,82 +32,3 @@ pub record Member (s : HaplotypeCallerActivityScoringParams) (words lengths : Li
   pub skips : part (start_of lengths i) (get_or lengths i 0) (skips_of s words) ≡ skips_of s (pile_at words lengths i)
   -- unless it is empty, its likelihoods in the set stand behind those of the piles left before it, and are those that it has alone
   pub likelihoods : 0 < get_or lengths i 0 → get_or (likelihoods_of s (piles_left words lengths)) (count_left (take i lengths)) [] ≡ rounded_of (pile_at words lengths i) s
-
--- ---- the proof
-
-within_run : (lengths : List ℕ) (i : ℕ) → start_of lengths i + get_or lengths i 0 ≤ total lengths
-unfolding total
-within_run [] zero = omega arith
-within_run [] (suc i) = omega arith
-within_run (n ∷ lengths) zero = omega arith
-within_run (n ∷ lengths) (suc i) = omega (arith, within_run lengths i)
-
-pile_at_lem : (words lengths : List ℕ) (i : ℕ) → i < length lengths → get_or (piles words lengths) i [] ≡ pile_at words lengths i
-unfolding piles total
-pile_at_lem words [] i h = absurd (not-suc-le-zero h)
-pile_at_lem words (n ∷ lengths) zero h = refl
-pile_at_lem words (n ∷ lengths) (suc i) h = pile_at_lem (drop n words) lengths i (omega arith) ∙ ap (take (get_or lengths i 0)) (drop-drop (total (take i lengths)) n words)
-
-module _ {A B : Type 0} (f : A → B) where
-  map-take : (n : ℕ) (l : List A) → take n (map f l) ≡ map f (take n l)
-  map-take zero l = refl
-  map-take (suc n) [] = refl
-  map-take (suc n) (x ∷ l) = ap (λ (t : List B). f x ∷ t) (map-take n l)
-
-  map-drop : (n : ℕ) (l : List A) → drop n (map f l) ≡ map f (drop n l)
-  map-drop zero l = refl
-  map-drop (suc n) [] = refl
-  map-drop (suc n) (x ∷ l) = map-drop n l
-
--- how many lengths are not 0, one length more
-pub count_more : (k : ℕ) (lengths : List ℕ) → foldl with_length k lengths ≡ k + count_left lengths
-unfolding foldl
-count_more k [] = omega arith
-count_more k (n ∷ lengths) = go (eqb n 0) (λ j. count_more j lengths)
-  where
-    go : (b : Bool) → ((j : ℕ) → foldl with_length j lengths ≡ j + count_left lengths) → foldl with_length (cond b k (k + 1)) lengths ≡ k + foldl with_length (cond b 0 (0 + 1)) lengths
-    go true rest = rest k
-    go false rest = omega (arith, rest (k + 1), rest 1)
-
-likelihoods-at : (s : HaplotypeCallerActivityScoringParams) (words lengths : List ℕ) (i : ℕ) → total lengths ≤ length words → i < length lengths → 0 < get_or lengths i 0
-    → get_or (likelihoods_of s (piles_left words lengths)) (count_left (take i lengths)) [] ≡ rounded_of (get_or (piles words lengths) i []) s
-unfolding piles total without foldl
-likelihoods-at s words [] i few h some = absurd (not-suc-le-zero h)
-likelihoods-at s words (n ∷ lengths) zero few h some =
-    rw (length-take-le n words (omega arith), ne_eqb n 0 (λ e. absurd (omega (arith, e))))
-likelihoods-at s words (n ∷ lengths) (suc i) few h some =
-    rw (length-take-le n words (omega arith)) (go (eqb n 0) (likelihoods-at s (drop n words) lengths i (omega (arith, length-drop n words)) (omega arith) some))
-  where
-    go : (b : Bool) → get_or (likelihoods_of s (piles_left (drop n words) lengths)) (count_left (take i lengths)) [] ≡ rounded_of (get_or (piles (drop n words) lengths) i []) s
-        → get_or (likelihoods_of s (cond b (piles_left (drop n words) lengths) (take n words ∷ piles_left (drop n words) lengths))) (foldl with_length (cond b 0 (0 + 1)) (take i lengths)) []
-        ≡ rounded_of (get_or (piles (drop n words) lengths) i []) s
-    go true e = e
-    go false e =
-        let next : foldl with_length (0 + 1) (take i lengths) ≡ suc (count_left (take i lengths)) = omega (arith, count_more (0 + 1) (take i lengths)) in
-        rw next e
-
--- every member of every set whose lengths add up to its run
-pub member : (s : HaplotypeCallerActivityScoringParams) (words lengths : List ℕ) → total lengths ≡ length words → (i : ℕ) → i < length lengths → Member s words lengths i
-member s words lengths e i h = record {
-  within = omega (arith, e, within_run lengths i);
-  pile = pile_at_lem words lengths i h;
-  skips = ap (take (get_or lengths i 0)) (map-drop (skipped s) (start_of lengths i) words) ∙ map-take (skipped s) (get_or lengths i 0) (drop (start_of lengths i) words);
-  likelihoods = λ some. likelihoods-at s words lengths i (omega (arith, e)) h some ∙ ap (λ (pile : List ℕ). rounded_of pile s) (pile_at_lem words lengths i h);
-}
-
--- ---- what is skipped settles nothing in the set, but that its pile is not empty
-
-pub likelihoods_of-counted : (s : HaplotypeCallerActivityScoringParams) (ps : List (List ℕ)) → likelihoods_of s (map (without (skipped s)) ps) ≡ likelihoods_of s ps
-likelihoods_of-counted s [] = refl
-likelihoods_of-counted s (pile ∷ ps) = rw (likelihoods-without s (s.sample_ploidy.0 + 1) pile) (ap (λ (l : List (List Float)). rounded_of pile s ∷ l) (likelihoods_of-counted s ps))
-
-counted-from : (s : HaplotypeCallerActivityScoringParams) (r : RunningMean) (ps : List (List ℕ)) → foldl (with_words s) r (map (without (skipped s)) ps) ≡ foldl (with_words s) r ps
-unfolding foldl with_word
-counted-from s r [] = refl
-counted-from s r (pile ∷ ps) =
-    ap (λ (q : RunningMean). foldl (with_words s) q (map (without (skipped s)) ps)) (foldl-without (skipped s) (with_word s) r pile (λ q w e. rw e))
-    ∙ counted-from s (with_words s r pile) ps
-
-pub mean_of-counted : (s : HaplotypeCallerActivityScoringParams) (ps : List (List ℕ)) → stratified_mean s (map (without (skipped s)) ps) ≡ stratified_mean s ps
-unfolding stratified_mean
-mean_of-counted s ps = ap (λ (r : RunningMean). r.mean) (counted-from s none ps)

@@ -2,6 +2,8 @@
 // haplotype_caller_activity_profile_state_multi_sample, with its calculate_multi_sample_any_non_ref_posterior in the
 // place of the joint EM. A set is one run of words and the lengths of its piles, each of which stands behind the one
 // before. No public function has a `requires`.
+#![tactic(auto)]
+
 mod lengths;
 mod posterior;
 mod score;

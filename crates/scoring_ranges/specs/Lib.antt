@@ -1,2 +1,1 @@
 pub mod LogArguments
-pub mod Qualities

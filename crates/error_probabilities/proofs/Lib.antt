@@ -1,0 +1,2 @@
+pub mod BySteps
+pub mod TenthPower

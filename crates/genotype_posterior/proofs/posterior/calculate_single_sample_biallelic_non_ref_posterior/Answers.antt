@@ -1,0 +1,12 @@
+-- `calculate_single_sample_biallelic_non_ref_posterior` meets its contract: the first zero exit, or the posteriors and what they say.
+use Rattle.std.proofs.Common.{refl, eq-eqb, ne_eqb}
+use Rattle.genotype_posterior.specs.Posterior.{posterior, posterior_written}
+use Rattle.genotype_posterior.proofs.posterior.calculate_single_sample_biallelic_non_ref_posterior.Goals as goal
+
+pub returns-then-max_element_index-eq0 : goal.returns-then-max_element_index-eq0
+unfolding posterior posterior_written
+returns-then-max_element_index-eq0 c = simp (← c.max_element_index.ensures.value, eq-eqb _ _ c.if-max_element_index-eq0.true) (record { value = refl; gl_after = refl })
+
+pub returns : goal.returns
+unfolding posterior posterior_written
+returns c = simp (← c.max_element_index.ensures.value, ne_eqb _ _ c.if-max_element_index-eq0.false, c.non_ref.ensures, c.write_unnormalized.ensures) (record { value = refl; gl_after = refl })
