@@ -1,4 +1,6 @@
 // Observations: one kept in the lent pile, and a run of them taken at once. No public function has a `requires`.
+#![tactic(auto)]
+
 ghost use Rattle.std.specs.Prelude.{◌≡◌, ◌≤◌, length};
 ghost use Rattle.lists.specs.Loops.{first_at};
 ghost use Rattle.region_program.specs.declared.Phase.TheVariants.{Pile};

@@ -10,11 +10,8 @@ use native.Mathlib.Omega.{arith}
 use lib.ListN.{length, length-drop, get_or, take, drop, take-append-drop}
 use lib.Seq.{take_all, drop-cons, drop-drop}
 use lib.Ieee.{Float}
-use Rattle.pileup_words.specs.declared.StreamEvent.{StreamEvent}
-use Rattle.pileup_words.specs.declared.StreamEvent.TheVariants.{Remainder, End}
 use Rattle.pileup_words.specs.Events.{event_of, events_of, last_event}
 use Rattle.genome.specs.Refusals.{number_of, Outcome, refused, answered}
-use Rattle.activity_profile.specs.declared.ActivityProfileRegion.{ActivityProfileRegion}
 use Rattle.activity_profile.specs.declared.BandPassActivityProfile.{BandPassActivityProfile}
 use Rattle.region_program.specs.declared.RegionStream.{RegionStream}
 use Rattle.region_program.specs.declared.Step.{Step}

@@ -1,7 +1,7 @@
 -- What feeding some words prints, whatever words follow them; and that it comes to an end: each step goes on to a later word, or leaves fewer times to act on this one.
 use Rattle.std.specs.Prelude.{Bool, List, [], ◌∷◌, ◌++◌, ℕ, ◌+◌, ◌-◌, ◌*◌, ◌≤◌, ◌<◌, drop}
 use Rattle.genome.specs.Refusals.{number_of}
-use Rattle.pileup_words.specs.Events.{events_of, last_event}
+use Rattle.pileup_words.specs.Events.{events_of}
 use Rattle.region_program.specs.declared.RegionStream.{RegionStream}
 use Rattle.region_program.specs.declared.Step.{Step}
 use Rattle.region_program.specs.declared.Step.TheVariants.{Next, Again, Line, Refused}

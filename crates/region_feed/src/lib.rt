@@ -1,5 +1,7 @@
 // Feeding the region program the words of a stream: what a program that prints, or one that compares, does with each
 // word. No public function has a `requires`.
+#![tactic(auto)]
+
 ghost use Rattle.std.specs.Prelude.{◌≡◌, [], ◌∷◌, ◌+◌, ◌^◌, ◌<◌, length, drop};
 ghost use Rattle.pileup_words.specs.Events.{last_event};
 ghost use Rattle.region_program.specs.Feeding.{FedBy};
@@ -13,7 +15,7 @@ use pileup_words::StreamEvent;
 use region_program::{CELLS, KERNEL, PILE, PRIORS, RegionStream, Step, TABLE};
 
 // What comes of a word, or of the end of the input.
-#[derive(Drop)]
+#[derive(Clone, Copy)]
 pub enum Found {
     Nothing,
     // A region to print.
@@ -23,7 +25,7 @@ pub enum Found {
 }
 
 // The stream, the place of its next word, and what came of the word before.
-#[derive(Drop)]
+#[derive(Clone, Copy)]
 pub struct Fed {
     pub stream: RegionStream,
     pub at: usize,

@@ -3,7 +3,7 @@ use mathlib.Core.Path.{◌≡◌, refl, sym, ap, ◌∙◌}
 use mathlib.Core.Bool.{Bool, true, false, not}
 use mathlib.Core.List.{List, [], ◌∷◌, ◌++◌, append_assoc}
 use Prim.Native.Nat.{ℕ, ◌+◌, ◌-◌, ◌≤◌, ◌<◌}
-use borrow.Author.Tests.{leb-true, leb-false, le-leb, lt-leb, not_true, not_false}
+use borrow.Author.Tests.{leb-true, leb-false, le-leb, lt-leb, not-true, not-false}
 use lib.Dec.{leb, eqb}
 use native.Mathlib.Nat.{le_refl}
 use native.Mathlib.Omega.{arith}
@@ -98,10 +98,10 @@ room_test used long h = go (leb (used + MOST) long) refl
     go false e = lt-leb MOST (long - used) (omega (arith, leb-false (used + MOST) long e, h))
 
 pub has : (b : Bool) (used long : ℕ) → b ≡ leb (used + MOST) long → not b ≡ false → used + MOST ≤ long
-has b used long e h = leb-true (used + MOST) long (sym e ∙ not_false b h)
+has b used long e h = leb-true (used + MOST) long (sym e ∙ not-false b h)
 
 pub has_not : (b : Bool) (used long : ℕ) → b ≡ leb (used + MOST) long → not b ≡ true → long < used + MOST
-has_not b used long e h = leb-false (used + MOST) long (sym e ∙ not_true b h)
+has_not b used long e h = leb-false (used + MOST) long (sym e ∙ not-true b h)
 
 -- a page's end is a byte at most
 feed_few : (b : Bool) → length (feed_where b) ≤ 1

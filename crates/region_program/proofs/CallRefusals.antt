@@ -27,7 +27,7 @@ use Rattle.activity_profile.proofs.Unbroken.{whole_not}
 use Rattle.stream_settings.specs.declared.StreamSettings.{StreamSettings}
 use Rattle.stream_settings.specs.Settings.{ranged_of, with_field}
 use Rattle.region_program.specs.Program.{buffer_size}
-use Rattle.region_program.specs.Reach.{Possible, setting, word, depth, off_the_contig, not_the_next, too_few_cells, zero_size}
+use Rattle.region_program.specs.Reach.{Possible, setting, word, off_the_contig, not_the_next, too_few_cells, zero_size}
 
 -- an add that is refused, of a record that is whole, on its own contig, of a probability
 pub add_refused : (p : BandPassActivityProfile) (n k : ℕ) (x : ActivityProfileState) → broken_add p n k ≡ false → other_contig p x ≡ false → no_activity x ≡ false → (m : ℕ) → add_verdict p n k x ≡ refusal m → Possible m

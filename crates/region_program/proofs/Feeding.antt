@@ -9,7 +9,7 @@ use Rattle.pileup_words.specs.declared.StreamEvent.{StreamEvent}
 use Rattle.activity_profile.specs.declared.ActivityProfileRegion.{ActivityProfileRegion}
 use Rattle.region_program.specs.Program.{Reading, at_loci, Answer, goes, again, line, stops, act, Printed, printed, refused_at, finished, after, acts, run_events, Scoring, pile_score}
 use Rattle.region_program.specs.Feeding.{FedBy, Fed, at_last, onward, once_more, printing, halted}
-use Rattle.region_program.specs.Tables.{act-same}
+use Rattle.region_program.proofs.Tables.{act-same}
 use Rattle.region_program.proofs.Acts.{again_ends, line_pops}
 
 -- ---- acting on an event until it is done

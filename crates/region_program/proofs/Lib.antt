@@ -12,3 +12,4 @@ pub mod Refused
 pub mod Lines
 pub mod Runs
 pub mod Steps
+pub mod Tables

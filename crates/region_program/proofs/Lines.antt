@@ -17,7 +17,7 @@ use Rattle.activity_profile.proofs.OnContig.{OnContig, region_on_contig}
 use Rattle.stream_settings.specs.declared.StreamSettings.{StreamSettings}
 use Rattle.stream_settings.specs.Settings.{with_field}
 use Rattle.region_program.specs.Program.{Reading, Place, at_settings, at_loci, in_pile, Answer, goes, again, line, stops, next, moved, stray}
-use Rattle.region_program.specs.Program.{profile_made, made_with, zero_size, set_by, before_loci, pop_made, between_piles, pile_score, score_added, score_cells}
+use Rattle.region_program.specs.Program.{profile_made, made_with, zero_size, set_by, before_loci, pop_made, between_piles, pile_score}
 use Rattle.region_program.specs.Program.{popped_by, ended_with, ended_by, within_pile, act_at, act, Printed, acts, run_events, program}
 
 -- on a contig of some length

@@ -1,5 +1,7 @@
 // The region program over a stream of events: its state, what each event answers, the definition of the whole program,
 // and its laws. The functions that act on events stand above, in stream_profile, observation_runs and region_stream.
+#![tactic(auto)]
+
 use activity_profile::{ActivityProfileRegion, BandPassActivityProfile};
 use genome::Refusal;
 use stream_settings::StreamSettings;
@@ -22,7 +24,7 @@ pub const PRIORS: usize = 6;
 pub const CONTIG: u32 = 0;
 
 // Where in its events the stream is.
-#[derive(Drop)]
+#[derive(Clone, Copy)]
 pub enum Phase {
     // Before the first locus: settings may come, and there is no profile yet.
     Settings,
@@ -37,7 +39,7 @@ pub enum Phase {
 }
 
 // What the events so far have left, and the index of the next word. The profile is looked at past the first locus alone.
-#[derive(Drop)]
+#[derive(Clone, Copy)]
 pub struct RegionStream {
     pub settings: StreamSettings,
     pub profile: BandPassActivityProfile,
@@ -46,7 +48,7 @@ pub struct RegionStream {
 }
 
 // What acting on an event answers, with the state that it leaves.
-#[derive(Drop)]
+#[derive(Clone, Copy)]
 pub enum Step {
     // The next event may come.
     Next(RegionStream),
@@ -59,7 +61,7 @@ pub enum Step {
 }
 
 // What a run of observations leaves: the state after them, and how many they are.
-#[derive(Drop)]
+#[derive(Clone, Copy)]
 pub struct Observed {
     pub stream: RegionStream,
     pub taken: usize,

@@ -8,13 +8,14 @@ use Prim.Native.Nat.{ℕ, ◌+◌, ◌*◌, ◌/◌, ◌≤◌, ◌<◌}
 use lib.ListN.{length, take, drop}
 use lib.Ieee.{Float}
 use Rattle.genome.specs.Refusals.{number_of}
-use Rattle.pileup_words.specs.Events.{events_of, last_event}
+use Rattle.pileup_words.specs.Events.{events_of}
 use Rattle.activity_profile.specs.declared.ActivityProfileRegion.{ActivityProfileRegion}
-use Rattle.region_program.specs.Program.{Scoring, pile_score, Reading, Printed, printed, refused_at, finished, after, program}
+use Rattle.region_program.specs.Program.{Scoring, Reading, Printed, printed, refused_at, after, program}
 use Rattle.region_program.specs.Feeding.{FedBy}
 use Rattle.region_program.specs.declared.RegionStream.{RegionStream}
 use Rattle.region_program.specs.Stream.{start, acts_left, most_acts}
-use Rattle.region_program.specs.Tables.{table_score, table_filled, list_filled, score_of-filled}
+use Rattle.region_program.specs.Tables.{table_score, table_filled, list_filled}
+use Rattle.region_program.proofs.Tables.{score_of-filled}
 use Rattle.region_program.proofs.Feeding.{fed_prints, fed_same}
 use Rattle.region_feed.specs.declared.Found.{Found}
 use Rattle.region_feed.specs.declared.Found.TheVariants.{Nothing, Line, Refused}

@@ -1,6 +1,8 @@
 // A run of the region program: blocks of words in, the text of a listing or of a sheet out, and of a refusal. What a
 // block prints is worked out here, byte by byte; reading and writing are the program's. No public function has a
 // `requires`.
+#![tactic(auto)]
+
 ghost use Rattle.std.specs.Prelude.{◌≡◌, false, ◌++◌, ◌+◌, ◌≤◌, ◌<◌, length, take};
 ghost use Rattle.region_program.specs.Stream.{seen, new_stream};
 ghost use Rattle.region_program.specs.Tables.{table_score};
@@ -19,7 +21,7 @@ const ROOM: usize = 65430;
 
 // The stream, the form of what it prints next, the place of its next word in the block, how many bytes of text wait to be
 // written, and whether the run is over.
-#[derive(Drop)]
+#[derive(Clone, Copy)]
 pub struct RegionRun {
     pub stream: RegionStream,
     pub form: Form,

@@ -1,17 +1,16 @@
 -- The pages of a sheet: a writer who knows only how many rows stand on the open page writes the sheet; each page is 60 rows and a form feed, the last one shorter; each row stands
 -- where the rows before it end; and the number of bytes is a formula of the number of regions. Assumes nothing.
 use mathlib.Core.Path.{◌≡◌, refl, sym, ap, ◌∙◌}
-use mathlib.Core.Bool.{Bool, true, false, cond}
+use mathlib.Core.Bool.{Bool, true, false}
 use mathlib.Core.List.{List, [], ◌∷◌, ◌++◌, append_assoc}
 use Prim.Native.Nat.{ℕ, zero, suc, ◌+◌, ◌-◌, ◌*◌, ◌/◌, ◌%◌, ◌≤◌, ◌<◌}
 use native.Mathlib.Omega.{arith}
-use native.Mathlib.Numerals.{add-one}
-use borrow.Author.Tests.{lt-ltb, le-ltb, ltb-true, ltb-false, eqb-true, eqb-false, eq-eqb, ne_eqb}
+use borrow.Author.Tests.{lt-ltb, le-ltb, ltb-true, ltb-false, eqb-true, eqb-false, ne_eqb}
 use lib.Dec.{ltb, eqb}
 use lib.ListN.{length, take, drop, length-append}
 use lib.Seq.{drop_at}
 use Rattle.activity_profile.specs.declared.ActivityProfileRegion.{ActivityProfileRegion}
-use Rattle.region_sheet.specs.Row.{region_row, Fits, AllFit}
+use Rattle.region_sheet.specs.Row.{region_row, AllFit}
 use Rattle.region_sheet.specs.Pages.{form_feed, page_rows, feed_where, ends_page, rows_from, sheet_text, rows_after, behind_row, page_end, pages_from}
 use Rattle.region_sheet.proofs.Rows.{row_length_lem}
 

@@ -1,5 +1,7 @@
 // The sheet for the field binder: document 02, U1. A row for each region, in columns, and 60 rows a page. No public
 // function has a `requires`.
+#![tactic(auto)]
+
 ghost use Rattle.std.specs.Prelude.{◌≡◌, ◌++◌, ◌+◌, ◌≤◌, drop, take, replicate};
 ghost use Rattle.region_text.specs.Text.{blank, digit, flag};
 ghost use Rattle.region_sheet.specs.Row.{row_text, right_aligned, position_columns};

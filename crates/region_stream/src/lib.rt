@@ -3,6 +3,8 @@
 //
 // The stream's state goes in by value and comes back. The pile that is being read, the kernel, the cells and the tables
 // that piles are scored by are lent.
+#![tactic(auto)]
+
 ghost use Rattle.std.specs.Prelude.{◌≡◌, ℕ, List, take, Float};
 ghost use Rattle.pileup_words.specs.declared.StreamEvent.TheVariants.{Locus, Observation, Pop, Setting as SettingEvent};
 ghost use Rattle.region_program.specs.declared.Phase.TheVariants.{Settings, Loci, Pile};

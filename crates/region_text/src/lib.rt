@@ -2,6 +2,8 @@
 //
 // A text is written from the end of a lent buffer to its front, since a number's last digit comes first; each function
 // answers where it starts.
+#![tactic(auto)]
+
 ghost use Rattle.std.specs.Prelude.{◌≡◌, ◌+◌, ◌≤◌, length, drop, take};
 ghost use Rattle.genome.specs.Refusals.{number_of};
 ghost use Rattle.region_text.specs.Text.{decimal, flag, number_onto, line_onto, refusal_onto, line_text, refusal_text, refused_word};

@@ -1,5 +1,7 @@
 // What a stream does to its profile: it is made with the stream's settings, and each pile is scored by the lent tables
 // and added. No public function has a `requires`.
+#![tactic(auto)]
+
 ghost use Rattle.std.specs.Prelude.{◌≡◌};
 ghost use Rattle.activity_profile.specs.Making.{making_of};
 ghost use Rattle.activity_scoring.specs.Score.{scored_of};
@@ -16,7 +18,7 @@ use region_program::{CONTIG, KERNEL, PRIORS, TABLE};
 use stream_settings::StreamSettings;
 
 // What scoring and adding a pile comes to.
-#[derive(Drop)]
+#[derive(Clone, Copy)]
 pub enum PileAdded {
     Profile(BandPassActivityProfile),
     Refused(Refusal),

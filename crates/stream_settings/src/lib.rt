@@ -1,10 +1,12 @@
 // The settings of a stream: their defaults, and what a setting's word does to them. No public function has a `requires`.
+#![tactic(auto)]
+
 mod settings;
 
 use genome::Refusal;
 
 // What kind 3 words set.
-#[derive(Drop)]
+#[derive(Clone, Copy)]
 pub struct StreamSettings {
     pub max_region_size: u32,
     pub min_region_size: u32,
@@ -15,7 +17,7 @@ pub struct StreamSettings {
 }
 
 // What a setting's word comes to.
-#[derive(Drop)]
+#[derive(Clone, Copy)]
 pub enum Setting {
     Set(StreamSettings),
     Refused(Refusal),

@@ -1,0 +1,43 @@
+-- `pop` meets its contract: the value is looked at first, and each answer of the pop is handed on.
+use Rattle.activity_profile.specs.Pop.{pop_answer_of}
+use Rattle.genome.specs.declared.Refusal.TheVariants.{Word}
+use Rattle.pileup_words.specs.declared.StreamEvent.TheVariants.{Pop}
+use Rattle.region_program.proofs.Steps.{refuses, at-loci, pop_line, pop_held, pop_empty, pop_refused}
+use Rattle.region_program.specs.Program.{between_piles}
+use Rattle.std.proofs.Common.{sym, ap, ◌∙◌, arith, le-ltb, lt-ltb}
+use Rattle.region_stream.proofs.pop.Goals as goal
+
+pub returns-then-value-gt1 : goal.returns-then-value-gt1
+unfolding between_piles
+returns-then-value-gt1 c = λ scoring pile kernel.
+    let a = c.args in
+    refuses scoring a.s pile kernel a.cells.now (Pop a.value) Word _
+    (at-loci scoring a.s pile kernel a.cells.now (Pop a.value) c.requires ∙ rw (lt-ltb 1 a.value (omega arith)))
+
+pub returns-in-Ready : goal.returns-in-Ready
+returns-in-Ready c = λ scoring pile kernel.
+    let a = c.args in
+    let e = c.try_pop_next_ready_region-popped.ensures in
+    let answer = sym e.result_value ∙ ap pop_answer_of c.in-Ready.is in
+    simp (c.with_record.ensures, e.cells_after) (pop_line scoring a.s pile kernel a.cells.now c.requires a.value (le-ltb 1 a.value (omega arith)) _ _ answer (omega (arith, c.well_formed)))
+
+pub returns-in-Held : goal.returns-in-Held
+returns-in-Held c = λ scoring pile kernel.
+    let a = c.args in
+    let e = c.try_pop_next_ready_region-popped.ensures in
+    let answer = sym e.result_value ∙ ap pop_answer_of c.in-Held.is in
+    simp (c.advanced.ensures, e.cells_after) (pop_held scoring a.s pile kernel a.cells.now c.requires a.value (le-ltb 1 a.value (omega arith)) _ answer)
+
+pub returns-in-Empty : goal.returns-in-Empty
+returns-in-Empty c = λ scoring pile kernel.
+    let a = c.args in
+    let e = c.try_pop_next_ready_region-popped.ensures in
+    let answer = sym e.result_value ∙ ap pop_answer_of c.in-Empty.is in
+    simp (c.advanced-in-Empty.ensures, e.cells_after) (pop_empty scoring a.s pile kernel a.cells.now c.requires a.value (le-ltb 1 a.value (omega arith)) _ answer)
+
+pub returns-in-Refused : goal.returns-in-Refused
+returns-in-Refused c = λ scoring pile kernel.
+    let a = c.args in
+    let e = c.try_pop_next_ready_region-popped.ensures in
+    let answer = sym e.result_value ∙ ap pop_answer_of c.in-Refused.is in
+    simp e.cells_after (pop_refused scoring a.s pile kernel a.cells.now c.requires a.value (le-ltb 1 a.value (omega arith)) _ _ answer)
