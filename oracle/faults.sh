@@ -1,6 +1,6 @@
 #!/usr/bin/env bash
 # Runs the region program, as a listing and as a sheet, where reads and writes are interrupted, cut short or fail, and compares what it wrote with what it writes
-# undisturbed: the same where a signal interrupts a call, and the front of it where a write fails. It needs strace, and programs that `rt check region sheet` built.
+# undisturbed: the same where a signal interrupts a call, and the front of it where a write fails. It needs strace, and programs that `tools/build region sheet` built.
 set -e
 cd "$(dirname "$0")/.."
 mkdir -p target/faults

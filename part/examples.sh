@@ -5,8 +5,8 @@
 set -e
 cd "$(dirname "$0")/.."
 mkdir -p target
-rt staticlib region_picker > target/staticlib.log 2>&1 || { cat target/staticlib.log; exit 1; }
-rt check region > target/region.log 2>&1 || { cat target/region.log; exit 1; }
+tools/build region_picker > target/staticlib.log 2>&1 || { cat target/staticlib.log; exit 1; }
+tools/build region > target/region.log 2>&1 || { cat target/region.log; exit 1; }
 gcc -std=c99 -O2 -Wall -Wextra -pedantic -o target/regions part/examples/c/regions.c target/staticlib/libregion_picker.a
 cargo build --quiet --release --offline --manifest-path part/examples/rust/Cargo.toml
 words=("$@")

@@ -1,4 +1,4 @@
-/* The region picker as a part: link libregion_picker.a, which `rt staticlib region_picker` writes to target/staticlib.
+/* The region picker as a part: link libregion_picker.a, which `tools/build region_picker` writes to target/staticlib.
  *
  * Every function is proved to do what is said here, for whatever numbers it is handed (crates/region_picker; document 01 is docs/01-scope.md).
  *

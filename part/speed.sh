@@ -12,7 +12,7 @@ against,2) library=$(realpath -e "$2") ;;
 esac
 cd "$(dirname "$0")/.."
 mkdir -p target
-rt staticlib region_picker > target/staticlib.log 2>&1 || { cat target/staticlib.log; exit 1; }
+tools/build region_picker > target/staticlib.log 2>&1 || { cat target/staticlib.log; exit 1; }
 if [ "$1" = against ]; then
     # the other build's functions get `before_` in front of their names
     nm --defined-only --extern-only "$library" | awk 'NF == 3 { print $3, "before_" $3 }' > target/before.names
@@ -20,7 +20,7 @@ if [ "$1" = against ]; then
     gcc -std=c99 -D_POSIX_C_SOURCE=200809L -O2 -Wall -Wextra -pedantic -o target/against part/speed/against.c target/staticlib/libregion_picker.a target/before.a
     exec target/against
 fi
-rt check region > target/region.log 2>&1 || { cat target/region.log; exit 1; }
+tools/build region > target/region.log 2>&1 || { cat target/region.log; exit 1; }
 cargo build --quiet --release --offline --manifest-path part/speed/Cargo.toml
 speed=part/speed/target/release/speed
 if [ "$1" != count ]; then

@@ -1,7 +1,10 @@
 // The region program: document 01's chapter of that name. It reads words from standard input and writes a line for each
 // region to standard output.
-use region_print::Form;
+#![tactic(auto)]
 
-fn main() {
-    region_main::run(Form::Listing);
+use region_print::Form;
+use std::io;
+
+fn main(rt: HostRuntime) -> io::Result<()> {
+    region_main::run(&rt, Form::Listing)
 }

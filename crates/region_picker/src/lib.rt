@@ -1,11 +1,22 @@
-// The part that makers link: the picker's entry points as C functions over numbers and slices. A slice is a pointer and
-// a length in C. Each function hands its arguments to the entry point of the same name and has its refusals and its
-// promises; part/region_picker.h says it in a maker's words. No function has a `requires`: whatever a caller hands in,
-// the answer is the one that the contract names.
+// The part that makers link: the picker's entry points as functions over numbers and slices, which region_picker_c exports to C.
+// Each function hands its arguments to the entry point of the same name and has its refusals and its promises;
+// part/region_picker.h says it in a maker's words. No function has a `requires`: whatever a caller hands in, the answer is
+// the one that the contract names.
 //
 // A profile's record is seven numbers in a lent array, in the order of their constants below, and the threshold, which the caller keeps.
+#![tactic(auto)]
+
 mod profile;
 mod scoring;
+
+pub use profile::{
+    region_picker_add, region_picker_cells_needed, region_picker_kernel, region_picker_make,
+    region_picker_pop,
+};
+pub use scoring::{
+    region_picker_count_clips, region_picker_fill_tables, region_picker_priors_length,
+    region_picker_score, region_picker_score_set, region_picker_table_length,
+};
 
 // The numbers of a record.
 pub const RECORD: usize = 7;

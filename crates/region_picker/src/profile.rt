@@ -17,8 +17,7 @@ use genome::{GenomePosition, Refusal};
 
 // Makes an empty profile of a contig: its numbers are written to `profile`, and its kernel stands in one of the two
 // buffers. Answers 0, or the number of a refusal, which writes nothing.
-#[unsafe(no_mangle)]
-pub extern "C" fn region_picker_make(
+pub fn region_picker_make(
     profile: &mut [u32; RECORD],
     contig: u32,
     contig_len: u32,
@@ -63,8 +62,7 @@ pub extern "C" fn region_picker_make(
 
 // Copies the kernel of the profile that a making left in its buffers, 2F + 1 numbers, to the front of `kernel`, and
 // answers 0. Where one of the three slices is too short for it, the answer is 2, and nothing is written.
-#[unsafe(no_mangle)]
-pub extern "C" fn region_picker_kernel<'a>(
+pub fn region_picker_kernel<'a>(
     kernel: &mut [f64],
     filter_size: u32,
     max_filter_size: u32,
@@ -92,8 +90,7 @@ pub extern "C" fn region_picker_kernel<'a>(
 // Writes to `cells` how many of them to lend a profile of these settings, so that no add is refused for want of cells where each
 // is followed by unforced pops with this max region size until `HELD` or `EMPTY`. Answers 0, or the number of a refusal,
 // which writes nothing.
-#[unsafe(no_mangle)]
-pub extern "C" fn region_picker_cells_needed(
+pub fn region_picker_cells_needed(
     max_region_size: u32,
     max_prob_propagation_distance: u32,
     filter_size: u32,
@@ -120,8 +117,7 @@ pub extern "C" fn region_picker_cells_needed(
 }
 
 // Adds the next locus. Answers 0, or the number of a refusal, which writes nothing.
-#[unsafe(no_mangle)]
-pub extern "C" fn region_picker_add(
+pub fn region_picker_add(
     profile: &mut [u32; RECORD],
     active_prob_threshold: f64,
     contig: u32,
@@ -162,8 +158,7 @@ pub extern "C" fn region_picker_add(
 
 // Pops the next region that is ready. Answers 0 with the region and its peak written; `HELD` or `EMPTY`; or the number of
 // a refusal, which writes nothing.
-#[unsafe(no_mangle)]
-pub extern "C" fn region_picker_pop(
+pub fn region_picker_pop(
     profile: &mut [u32; RECORD],
     active_prob_threshold: f64,
     assembly_region_extension: u32,

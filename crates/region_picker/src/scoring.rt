@@ -15,16 +15,14 @@ use genotype_likelihoods::HaplotypeCallerActivityScoringParams;
 use hq_soft_clip::SoftClips;
 
 // How many numbers the table of a ploidy has.
-#[unsafe(no_mangle)]
-pub extern "C" fn region_picker_table_length(ploidy: u8) -> usize
+pub fn region_picker_table_length(ploidy: u8) -> usize
     ensures { result ≡ table_length ploidy }
 {
     contribution_table::table_length(Ploidy(ploidy))
 }
 
 // How many numbers the list of priors of a ploidy has.
-#[unsafe(no_mangle)]
-pub extern "C" fn region_picker_priors_length(ploidy: u8) -> usize
+pub fn region_picker_priors_length(ploidy: u8) -> usize
     ensures { result ≡ priors_length ploidy }
 {
     genotype_posterior::priors_length(Ploidy(ploidy))
@@ -33,8 +31,7 @@ pub extern "C" fn region_picker_priors_length(ploidy: u8) -> usize
 // Fills the tables that scoring is handed: `table`, of `region_picker_table_length` numbers or more, and `priors`, of
 // `region_picker_priors_length` or more. To be called once, and again when a setting changes. Answers 0; 1 for a setting
 // outside its range; 2 for a slice that is too short. A refusal writes nothing.
-#[unsafe(no_mangle)]
-pub extern "C" fn region_picker_fill_tables(
+pub fn region_picker_fill_tables(
     table: &mut [f64],
     priors: &mut [f64],
     min_base_quality_score: u8,
@@ -75,8 +72,7 @@ pub extern "C" fn region_picker_fill_tables(
 // `evidence` 1 and the clip count, or 0 and 0 for plain evidence; or the number of a refusal, which writes nothing. The
 // score is the same by tables that were filled for other settings, or never, and without any (slices of length 0): those
 // are not looked at, and it takes longer.
-#[unsafe(no_mangle)]
-pub extern "C" fn region_picker_score(
+pub fn region_picker_score(
     pos: u32,
     pile: &[u32],
     table: &[f64],
@@ -120,8 +116,7 @@ pub extern "C" fn region_picker_score(
 
 // Scores a set of piles: `words` is one run, and `lengths` has how many words each pile has, in their order; the lengths
 // add up to the run. Answers as `region_picker_score` does, and 12 for more than 64 piles.
-#[unsafe(no_mangle)]
-pub extern "C" fn region_picker_score_set(
+pub fn region_picker_score_set(
     pos: u32,
     words: &[u32],
     lengths: &[u32],
@@ -217,8 +212,7 @@ fn evidence_fields(e: ActivityEvidence) -> [u32; 2]
 
 // Counts the soft-clipped bases of a quality above 28, which 255 is not, along CIGAR words. Answers 0 with the count
 // written, or the number of a refusal, which writes nothing.
-#[unsafe(no_mangle)]
-pub extern "C" fn region_picker_count_clips(cigar: &[u32], qualities: &[u8], count: &mut u64) -> u32
+pub fn region_picker_count_clips(cigar: &[u32], qualities: &[u8], count: &mut u64) -> u32
     ensures { Answers (λ n. n) (clip_count cigar.now qualities.now)
         count.old count.new result }
 {

@@ -1,5 +1,5 @@
 -- The blocks of the input, and the words in them.
-use Rattle.std.specs.Prelude.{cond, not, List, ◌≡◌, ℕ, ◌+◌, ◌-◌, ◌*◌, ◌/◌, ◌%◌, ◌≤◌, ◌<◌, ltb, eqb, get_or, take}
+use Rattle.std.specs.Prelude.{cond, not, List, ◌≡◌, ℕ, ◌+◌, ◌-◌, ◌*◌, ◌/◌, ◌%◌, ◌≤◌, ltb, eqb, get_or, take}
 use Rattle.lists.specs.Each.{each}
 use Rattle.standard_io.specs.declared.Input.{Input}
 use Rattle.standard_io.specs.declared.Input.TheVariants.{Words, End, Failed}

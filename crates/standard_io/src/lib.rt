@@ -1,5 +1,7 @@
 // Standard input as little-endian words, block by block, and standard output as blocks of text. A call that a signal
 // interrupts is tried again. No public function has a `requires`.
+#![tactic(auto)]
+
 mod reading;
 mod writing;
 
@@ -13,11 +15,12 @@ pub const BLOCK: usize = 65536;
 pub const WORDS: usize = 16384;
 
 // What a reading brings.
-#[derive(Drop)]
+#[derive(Clone, Copy)]
 pub enum Input {
     // So many words, and so many bytes kept of a word that is not whole yet.
     Words { count: usize, kept: usize },
     // The end of the input, and whether bytes are left over that are no whole word.
     End { remainder: bool },
+    // Nothing, by a read that failed. `read_words` answers the error in its place.
     Failed,
 }

@@ -1,18 +1,31 @@
 // Reading words.
-ghost use Rattle.std.specs.Prelude.{◌≡◌, ◌+◌, ◌*◌, ◌/◌, ◌%◌, ◌≤◌, ◌<◌, length};
+ghost use Rattle.std.specs.Prelude.{◌≡◌, ◌+◌, ◌*◌, ◌/◌, ◌%◌, ◌≤◌, ◌<◌, length, take, IfOk, OnErr};
+ghost use Rattle.std.specs.Io.{ReadsAtMost};
+ghost use Rattle.std.specs.Io.KnownBytes.{Consumes, IsAtEnd, Keeps};
 ghost use Rattle.lists.specs.Each.{each};
+ghost use Rattle.standard_io.specs.Taken.{Takes};
 ghost use Rattle.standard_io.specs.Words.{Reads, BLOCK as block_size, WORDS as word_count, word_at, read_word, moved_byte, kept_of};
 
 use crate::{BLOCK, Input, WORDS};
-use libc::{EINTR, STDIN_FILENO};
+use std::io;
+use std::io::{ErrorKind, Read};
 
-// Reads once, behind the bytes that were kept of a word, and answers the whole words that are there then. A failure is told
-// on standard error.
-pub fn read_words(kept: usize, bytes: &mut [u8; BLOCK], words: &mut [u32; WORDS]) -> Input
-    ensures { Reads (kept % 4) bytes.old bytes.new words.old words.new result }
+// Reads once, behind the bytes that were kept of a word, and answers the whole words that are there then, or the end where
+// the reader has come to it. A read that fails is an error: it leaves the words as they were, and takes nothing.
+pub fn read_words<R: Read>(
+    reader: &mut R,
+    kept: usize,
+    bytes: &mut [u8; BLOCK],
+    words: &mut [u32; WORDS],
+) -> io::Result<Input>
+    ensures ok { IfOk result (λ input. Reads (kept % 4) bytes.old bytes.new words.old words.new input) }
+    ensures taken { IfOk result (λ input. Takes (R.remaining reader.old) (R.remaining reader.new)
+        (kept % 4) bytes.old bytes.new words.old words.new input) }
+    ensures err { OnErr result (words.new ≡ words.old) }
+    ensures none_taken { OnErr result (Keeps (R.remaining reader.old) (R.remaining reader.new)) }
 {
     let from = kept % 4;
-    read_behind(from, bytes, words)
+    read_behind(reader, from, bytes, words)
 }
 
 impl Input {
@@ -28,37 +41,49 @@ impl Input {
     }
 }
 
-fn read_behind(from: usize, bytes: &mut [u8], words: &mut [u32]) -> Input
+fn read_behind<R: Read>(
+    reader: &mut R,
+    from: usize,
+    bytes: &mut [u8],
+    words: &mut [u32],
+) -> io::Result<Input>
     requires { (from < 4) × (length bytes.old ≡ block_size) × (length words.old ≡ word_count) }
-    ensures { Reads from bytes.old bytes.new words.old words.new result }
+    ensures ok { IfOk result (λ input. Reads from bytes.old bytes.new words.old words.new input) }
+    ensures taken { IfOk result (λ input. Takes (R.remaining reader.old) (R.remaining reader.new)
+        from bytes.old bytes.new words.old words.new input) }
+    ensures err { OnErr result (words.new ≡ words.old) }
+    ensures none_taken { OnErr result (Keeps (R.remaining reader.old) (R.remaining reader.new)) }
 {
-    let got = read_once(&mut bytes[from..]);
-    if got < 0 {
-        os::fail(b"standard input");
-        return Input::Failed;
-    }
+    let got = read_once(reader, &mut bytes[from..])?;
     if got == 0 {
-        return Input::End {
+        return Ok(Input::End {
             remainder: from != 0,
-        };
+        });
     }
-    let n = from + io::count(got, &bytes[from..]);
+    let n = from + got;
     let count = words_of(bytes, n, words);
     let rest = keep_rest(bytes, n);
-    Input::Words { count, kept: rest }
+    Ok(Input::Words { count, kept: rest })
 }
 
 // One read, which is tried again where a signal interrupts it before it brings a byte.
-fn read_once(bytes: &mut [u8]) -> isize {
-    let mut turns = u64::MAX;
-    while turns > 0 {
-        let got = libc::read(STDIN_FILENO, bytes);
-        if (got >= 0) | (os::errno() != EINTR) {
-            return got;
+fn read_once<R: Read>(reader: &mut R, bytes: &mut [u8]) -> io::Result<usize>
+    ensures bound { ReadsAtMost result bytes.new }
+    ensures ok { IfOk result (λ n. Consumes (R.remaining reader.old) (R.remaining reader.new) (take n bytes.new)) }
+    ensures end { IfOk result (λ n. n ≡ 0 → 0 < length bytes.old → IsAtEnd (R.remaining reader.new)) }
+    ensures err { OnErr result (Keeps (R.remaining reader.old) (R.remaining reader.new)) }
+{
+    for _ in 0..u64::MAX {
+        match reader.read(bytes) {
+            Ok(got) => return Ok(got),
+            Err(e) => {
+                if e.kind() != ErrorKind::Interrupted {
+                    return Err(e);
+                }
+            }
         }
-        turns -= 1;
     }
-    -1
+    Err(io::Error::from(ErrorKind::Interrupted))
 }
 
 // Reads the whole words of the first n bytes, and answers how many they are.

@@ -1,44 +1,18 @@
 // Writing text.
-ghost use Rattle.std.specs.Prelude.{◌≤◌, length, take, ◌≡◌};
+ghost use Rattle.std.specs.Prelude.{◌≤◌, length, take, ◌≡◌, OnOk};
+ghost use Rattle.std.specs.Io.KnownBytes.{Appends};
 
 use crate::BLOCK;
-use libc::{EINTR, STDOUT_FILENO};
+use std::io;
+use std::io::Write;
 
-// Writes the first n bytes of a block, or all where there are fewer, and answers whether it could. A failure is told on
-// standard error; no byte behind it is written. What becomes of bytes that are written is outside the logic, so there is
-// nothing that a contract could equate.
-pub fn write_front(block: &[u8; BLOCK], n: usize) -> bool {
-    let written = write_all(first(block, n));
-    if !written {
-        os::fail(b"standard output");
-    }
-    written
-}
-
-// Writes every byte in its order, or stops at a write that fails or takes nothing. One that a signal interrupts is tried again.
-fn write_all(bytes: &[u8]) -> bool {
-    let mut done = 0;
-    let mut turns = u64::MAX;
-    while turns > 0 {
-        if done == bytes.len() {
-            return true;
-        }
-        let got = libc::write(STDOUT_FILENO, &bytes[done..]);
-        if !may_go_on(got) {
-            return false;
-        }
-        done += io::count(got, &bytes[done..]);
-        turns -= 1;
-    }
-    false
-}
-
-// Whether a write took something, or was interrupted before it did.
-fn may_go_on(got: isize) -> bool {
-    if got < 0 {
-        return os::errno() == EINTR;
-    }
-    got > 0
+// Writes the first n bytes of a block, or all where there are fewer, in their order. A write that fails or takes nothing is
+// an error, and no byte behind it is written; one that a signal interrupts is tried again. What becomes of bytes that the
+// system takes is outside the logic: the clause is of a writer whose bytes are known.
+pub fn write_front<W: Write>(writer: &mut W, block: &[u8; BLOCK], n: usize) -> io::Result<()>
+    ensures { OnOk result (Appends (W.contents writer.old) (W.contents writer.new) (take n block.now)) }
+{
+    writer.write_all(first(block, n))
 }
 
 fn first<'a>(bytes: &'a [u8], n: usize) -> &'a [u8]
