@@ -1,5 +1,7 @@
 // Lists of answers (docs/LISTS.md): reading one answer at a time, and comparing its results with others, bit for bit.
 // No public function has a `requires`.
+#![tactic(auto)]
+
 mod arrays;
 mod compare;
 mod read;
@@ -10,7 +12,7 @@ pub use read::read_answer;
 pub use words::{bits_of, double_at, double_of, number_at, word_at};
 
 // What reading an answer found.
-#[derive(Drop)]
+#[derive(Clone, Copy)]
 pub enum Answer {
     // A function's number, and how many words of arguments and results now stand at the front of the lent slice.
     Words { function: u64, count: usize },
@@ -21,7 +23,7 @@ pub enum Answer {
 }
 
 // How far the results of an answer have been compared, and whether all so far were the same.
-#[derive(Drop)]
+#[derive(Clone, Copy)]
 pub struct Compared {
     pub at: usize,
     pub same: bool,

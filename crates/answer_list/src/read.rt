@@ -1,61 +1,66 @@
-// Reading an answer from a file.
-ghost use Rattle.std.specs.Prelude.{◌<◌, ◌≤◌, length};
+// Reading an answer from a reader.
+ghost use Rattle.std.specs.Prelude.{◌≡◌, ◌<◌, ◌≤◌, length, IfOk, OnErr};
 ghost use Rattle.answer_list.specs.Read.{FitsIn};
 
 use crate::Answer;
+use std::io;
+use std::io::ErrorKind;
 
 // A word of the list, or its end.
-#[derive(Drop)]
+#[derive(Clone, Copy)]
 enum Read {
     Word(u64),
     End,
 }
 
-// Reads the next answer from the descriptor; its words stand at the front of the lent slice.
-pub fn read_answer(fd: i32, words: &mut [u64]) -> Answer
-    ensures { FitsIn (length words.new) result }
+// Reads the next answer from the reader; its words stand at the front of the lent slice. A read that fails is an error, and
+// leaves the slice with what was read before it.
+pub fn read_answer<R: io::Read>(reader: &mut R, words: &mut [u64]) -> io::Result<Answer>
+    ensures ok { IfOk result (λ answer. FitsIn (length words.new) answer) }
+    ensures err { OnErr result (length words.new ≡ length words.old) }
 {
-    let head = read_word(fd);
+    let head = read_word(reader)?;
     let Read::Word(function) = head else {
-        return Answer::End;
+        return Ok(Answer::End);
     };
-    let size = read_word(fd);
+    let size = read_word(reader)?;
     let Read::Word(count) = size else {
-        return Answer::Malformed;
+        return Ok(Answer::Malformed);
     };
     if (words.len() as u64) < count {
-        return Answer::Malformed;
+        return Ok(Answer::Malformed);
     }
     let n = count as usize;
-    if !read_words(fd, words, n) {
-        return Answer::Malformed;
+    if !read_words(reader, words, n)? {
+        return Ok(Answer::Malformed);
     }
-    Answer::Words { function, count: n }
+    Ok(Answer::Words { function, count: n })
 }
 
 // Reads n words; false where the list ends before.
-fn read_words(fd: i32, words: &mut [u64], n: usize) -> bool
+fn read_words<R: io::Read>(reader: &mut R, words: &mut [u64], n: usize) -> io::Result<bool>
     requires { n ≤ length words.old }
 {
     let mut i = 0;
     while i < n {
-        let next = read_word(fd);
+        let next = read_word(reader)?;
         let Read::Word(w) = next else {
-            return false;
+            return Ok(false);
         };
         words[i] = w;
         i += 1;
     }
-    true
+    Ok(true)
 }
 
-// Eight bytes as a little-endian word.
-fn read_word(fd: i32) -> Read {
+// Eight bytes as a little-endian word; fewer are the end.
+fn read_word<R: io::Read>(reader: &mut R) -> io::Result<Read> {
     let mut b = [0u8; 8];
-    if io::read_full(fd, &mut b) < 8 {
-        return Read::End;
+    match reader.read_exact(&mut b) {
+        Ok(()) => Ok(Read::Word(half(&b, 0) + 4294967296 * half(&b, 4))),
+        Err(e) if e.kind() == ErrorKind::UnexpectedEof => Ok(Read::End),
+        Err(e) => Err(e),
     }
-    Read::Word(half(&b, 0) + 4294967296 * half(&b, 4))
 }
 
 fn half(b: &[u8; 8], at: usize) -> u64

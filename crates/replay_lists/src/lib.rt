@@ -1,11 +1,15 @@
 // Replays lists of answers (docs/LISTS.md) through the proved library and compares every result bit for bit. No public
 // function has a `requires`.
+#![tactic(auto)]
+
 ghost use Rattle.std.specs.Prelude.{◌<◌};
 
 use answer_list::Answer;
-use libc::STDOUT_FILENO;
 use region_print::Form;
 use region_program::{PRIORS, TABLE};
+use std::io::{BufReader, Read};
+use std::rt::{Env, Files};
+use std::{env, fs, io};
 
 // The functions that an answer may be of, and 0 for any other.
 const FUNCTIONS: usize = 21;
@@ -14,80 +18,76 @@ const FUNCTIONS: usize = 21;
 const ANSWER: usize = 16384;
 
 // Replays the files that the program's arguments name, and prints how many answers of each function agree.
-pub fn replay_arguments() {
+pub fn replay_arguments<R: Env + Files + Print + Eprint + Alloc>(rt: &R) -> io::Result<()> {
     let mut asked = [0u64; FUNCTIONS];
     let mut agreed = [0u64; FUNCTIONS];
     let mut table = [0.0f64; TABLE];
     let mut priors = [0.0f64; PRIORS];
     stream_profile::fill_tables(&mut table, &mut priors);
-    let count = os::arg_count();
-    let mut i = 1;
-    while i < count {
-        replay_file(i, &mut asked, &mut agreed, &table, &priors);
-        i += 1;
+    for name in env::args(rt)?.skip(1) {
+        replay_file(rt, &name, &mut asked, &mut agreed, &table, &priors)?;
     }
-    report(asked, agreed);
+    report(rt, asked, agreed)
 }
 
-// Replays the file that argument i names.
-fn replay_file(
-    i: usize,
+// Replays the file of that name. One that cannot be opened is told on standard error, and left out.
+fn replay_file<R: Files + Eprint + Alloc>(
+    rt: &R,
+    name: &str,
     asked: &mut [u64; FUNCTIONS],
     agreed: &mut [u64; FUNCTIONS],
     table: &[f64; TABLE],
     priors: &[f64; PRIORS],
-) {
-    let mut name = [0u8; 256];
-    let n = os::arg(i, &mut name);
-    let fd = os::open_read(&name[..n]);
-    if fd < 0 {
-        os::fail(&name[..n]);
-        return;
-    }
+) -> io::Result<()> {
+    let file = match fs::open(rt, name) {
+        Ok(file) => file,
+        Err(e) => return eprintln!(rt; "{name}: {e}"),
+    };
+    let mut reader = BufReader::new(rt.alloc(), file)?;
     let mut words = [0u64; ANSWER];
-    replay_list(fd, &mut words, asked, agreed, table, priors);
-    libc::close(fd);
+    replay_list(&mut reader, &mut words, asked, agreed, table, priors)
 }
 
 // Replays the answers of a list to its end.
-fn replay_list(
-    fd: i32,
+fn replay_list<R: Read>(
+    reader: &mut R,
     words: &mut [u64],
     asked: &mut [u64; FUNCTIONS],
     agreed: &mut [u64; FUNCTIONS],
     table: &[f64; TABLE],
     priors: &[f64; PRIORS],
-) {
+) -> io::Result<()> {
     let mut budget = 1000000000u64;
     while budget > 0 {
-        if !replay_next(fd, words, asked, agreed, table, priors) {
-            return;
+        if !replay_next(reader, words, asked, agreed, table, priors)? {
+            return Ok(());
         }
         budget -= 1;
     }
+    Ok(())
 }
 
 // Replays the next answer; false at the end. A list that ends within an answer counts as one that differs.
-fn replay_next(
-    fd: i32,
+fn replay_next<R: Read>(
+    reader: &mut R,
     words: &mut [u64],
     asked: &mut [u64; FUNCTIONS],
     agreed: &mut [u64; FUNCTIONS],
     table: &[f64; TABLE],
     priors: &[f64; PRIORS],
-) -> bool {
-    let answer = answer_list::read_answer(fd, words);
+) -> io::Result<bool> {
+    let answer = answer_list::read_answer(reader, words)?;
     match answer {
         Answer::Words { function, count } => {
             let same = replay(function, &words[..count], table, priors);
             tally(index_of(function), same, asked, agreed);
-            true
+            Ok(true)
         }
         Answer::Malformed => {
             tally(0, false, asked, agreed);
-            false
+            Ok(false)
         }
-        Answer::End => false,
+        Answer::End => Ok(false),
     }
 }
 
@@ -129,39 +129,39 @@ fn replay(function: u64, words: &[u64], table: &[f64; TABLE], priors: &[f64; PRI
 }
 
 // A line for each function that the lists had.
-fn report(asked: [u64; FUNCTIONS], agreed: [u64; FUNCTIONS]) {
-    line(b"exp", asked[1], agreed[1]);
-    line(b"ln", asked[2], agreed[2]);
-    line(b"log10", asked[3], agreed[3]);
-    line(b"ten_to", asked[4], agreed[4]);
-    line(b"ln_gamma", asked[5], agreed[5]);
-    line(b"normal_distribution", asked[6], agreed[6]);
-    line(b"make_gaussian_kernel", asked[7], agreed[7]);
-    line(b"adaptive_filter_size", asked[8], agreed[8]);
-    line(b"making", asked[9], agreed[9]);
-    line(b"add", asked[10], agreed[10]);
-    line(b"pop", asked[11], agreed[11]);
-    line(b"run", asked[12], agreed[12]);
-    line(b"clip count", asked[13], agreed[13]);
-    line(b"score", asked[14], agreed[14]);
-    line(b"approximate_log10_sum_log10_pair", asked[15], agreed[15]);
-    line(b"log10_sum_log10", asked[16], agreed[16]);
-    line(b"region program", asked[17], agreed[17]);
-    line(b"sheet", asked[18], agreed[18]);
-    line(b"cells needed", asked[19], agreed[19]);
-    line(b"score of a set", asked[20], agreed[20]);
-    line(b"unknown or malformed", asked[0], agreed[0]);
+fn report(rt: &impl Print, asked: [u64; FUNCTIONS], agreed: [u64; FUNCTIONS]) -> io::Result<()> {
+    line(rt, "exp", asked[1], agreed[1])?;
+    line(rt, "ln", asked[2], agreed[2])?;
+    line(rt, "log10", asked[3], agreed[3])?;
+    line(rt, "ten_to", asked[4], agreed[4])?;
+    line(rt, "ln_gamma", asked[5], agreed[5])?;
+    line(rt, "normal_distribution", asked[6], agreed[6])?;
+    line(rt, "make_gaussian_kernel", asked[7], agreed[7])?;
+    line(rt, "adaptive_filter_size", asked[8], agreed[8])?;
+    line(rt, "making", asked[9], agreed[9])?;
+    line(rt, "add", asked[10], agreed[10])?;
+    line(rt, "pop", asked[11], agreed[11])?;
+    line(rt, "run", asked[12], agreed[12])?;
+    line(rt, "clip count", asked[13], agreed[13])?;
+    line(rt, "score", asked[14], agreed[14])?;
+    line(
+        rt,
+        "approximate_log10_sum_log10_pair",
+        asked[15],
+        agreed[15],
+    )?;
+    line(rt, "log10_sum_log10", asked[16], agreed[16])?;
+    line(rt, "region program", asked[17], agreed[17])?;
+    line(rt, "sheet", asked[18], agreed[18])?;
+    line(rt, "cells needed", asked[19], agreed[19])?;
+    line(rt, "score of a set", asked[20], agreed[20])?;
+    line(rt, "unknown or malformed", asked[0], agreed[0])
 }
 
 // "NAME: AGREED of ASKED agree", where any were asked.
-fn line(name: &[u8], asked: u64, agreed: u64) {
+fn line(rt: &impl Print, name: &str, asked: u64, agreed: u64) -> io::Result<()> {
     if asked == 0 {
-        return;
+        return Ok(());
     }
-    io::write_all(STDOUT_FILENO, name);
-    io::write_all(STDOUT_FILENO, b": ");
-    io::print_decimal(STDOUT_FILENO, agreed);
-    io::write_all(STDOUT_FILENO, b" of ");
-    io::print_decimal(STDOUT_FILENO, asked);
-    io::write_all(STDOUT_FILENO, b" agree\n");
+    println!(rt; "{name}: {agreed} of {asked} agree")
 }

@@ -1,5 +1,7 @@
 // Answers of the elementary functions, the kernel and the making of a profile (docs/LISTS.md, 1 to 9), and of the cells that it needs (19),
 // replayed through the proved library. No public function has a `requires`.
+#![tactic(auto)]
+
 mod cells;
 mod kernel;
 

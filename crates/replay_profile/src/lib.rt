@@ -1,5 +1,7 @@
 // Answers of adds, pops and runs of both on one profile (docs/LISTS.md, 10 to 12), replayed through the proved library.
 // No public function has a `requires`.
+#![tactic(auto)]
+
 mod call;
 mod run;
 

@@ -5,7 +5,7 @@ use activity_profile::{BandPassActivityProfile, Made};
 use answer_list::{Compared, number_at, word_at};
 
 // How far a run has come.
-#[derive(Drop)]
+#[derive(Clone, Copy)]
 struct Running {
     compared: Compared,
     profile: BandPassActivityProfile,

@@ -1,5 +1,7 @@
 // Answers of the soft-clip count, of scoring and of its sums (docs/LISTS.md, 13 to 16), and of scoring a set (20), replayed
 // through the proved library. No public function has a `requires`.
+#![tactic(auto)]
+
 mod clips;
 mod scores;
 mod sums;

@@ -1,6 +1,8 @@
 // Replays an answer of the region program (docs/LISTS.md, 17 and 18) through the proved run, and compares every byte
 // that it prints, as a listing or as a sheet. A stream is given as items: so many words, so many times over, the first of
 // them raised by a step each time. No public function has a `requires`.
+#![tactic(auto)]
+
 ghost use Rattle.std.specs.Prelude.{◌≡◌, ◌≤◌, length};
 
 use answer_list::{Compared, number_at, word_at};
@@ -9,7 +11,7 @@ use region_program::{CELLS, KERNEL, PILE, PRIORS, TABLE};
 use region_run::{BLOCK, RegionRun};
 
 // The run, and how far what it printed was compared.
-#[derive(Drop)]
+#[derive(Clone, Copy)]
 pub struct Replayed {
     pub run: RegionRun,
     pub compared: Compared,

@@ -1,5 +1,5 @@
 -- P1 to P15 of document 01, and examples of document 02, against the definitions. Assumes nothing.
-use Rattle.std.specs.Prelude.{◌≡◌, refl, Bool, true, false, cond, List, [], ◌∷◌, ◌++◌, map, ℕ, ◌+◌, ◌*◌, ◌<◌, length, get_or, replicate, Float}
+use Rattle.std.specs.Prelude.{◌≡◌, refl, Bool, true, false, cond, List, [], ◌∷◌, ◌++◌, map, ℕ, ◌+◌, ◌*◌, length, get_or, replicate, Float}
 use Rattle.std.proofs.Common.{arith}
 use Rattle.std.specs.Float.{binary64, nan}
 use Rattle.std.specs.Float.Ieee.{neg, round, of_bits, to_bits, of_int, to_unsigned, add, sub, mul, div, lt, le, ne}
@@ -29,7 +29,7 @@ use Rattle.activity_scoring.specs.declared.Activity.{Activity}
 use Rattle.activity_scoring.specs.Score.{evidence_of, state_with}
 use Rattle.multi_sample_scoring.specs.Sets.{piles, total, piles_left, clamped, any_non_ref, stratified_mean, set_state_with, set_score_with}
 use Rattle.hq_soft_clip.specs.SoftClips.{clip_count, count_high, by_operation}
-use Rattle.worked_examples.specs.Rows.{Row, same, all_right, row_at, each_row}
+use Rattle.worked_examples.specs.Rows.{Row, same, all_right}
 
 -- n tenths: the double nearest to that
 tenths : ℕ → Float
@@ -269,7 +269,3 @@ table =
 pub table_right : all_right table ≡ true
 unfolding table all_right same set_of score_told near_clips piles without total set_state_with any_non_ref clamped stratified_mean set_score_with state_with mul Rattle.genotype_likelihoods.specs.Settings.settings_in_range cells_needed one_behind_zeros count_told after step add_answer add_answer_by add_cells add_cells_by pop_cells pop_cells_by add_verdict added_profile first_locus highest needed pop_of told peak_told peak_of tenths hundredths profile pop_answer pop_answer_by pop_verdict turn kept broken settings_in_range placed qualifies beats replaces better best_cut_site or_most size_of pop_size region_with region_of leads peak_index along rest super_states numbered clip_count count_high by_operation then_clip word minimum skipped_of clips_of evidence_told effective_qual lacks_quality skips counted evidence_of mean_of with_word pl_of min_f to_unsigned of_int add sub div ne foldl down first_at each up_to lt le neg of_bits to_bits round
 table_right = refl
-
--- every row
-pub row_right : (i : ℕ) → i < length table → (row_at table i).given ≡ (row_at table i).wanted
-row_right i h = each_row table table_right i h

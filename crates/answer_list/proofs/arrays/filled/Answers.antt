@@ -1,0 +1,24 @@
+-- `filled` meets its contract: the entries before i are as the rule says, the others as they were.
+use Rattle.std.proofs.Common.{sym, ◌∙◌, arith}
+use lib.Ieee.{nan}
+use Rattle.lists.specs.Each.{up_to_zero, up_to_put, up_to_all, fixed, each-fixed}
+use Rattle.answer_list.specs.Arrays.{pattern_at}
+use Rattle.answer_list.proofs.arrays.filled.Goals as goal
+
+pub loop-i-init : goal.loop-i-init
+loop-i-init c = (omega arith, sym (up_to_zero _ _))
+
+pub loop-i-preserved : goal.loop-i-preserved
+unfolding pattern_at
+loop-i-preserved c =
+    let at = c in
+    let a = at.args in (
+      omega arith,
+      up_to_put (fixed (pattern_at a.first)) at.loop-i.i _ _ nan _ at.loop-i.invariant.1 (omega arith) (simp (c.double_of.ensures, c.wrapping_add_u64.ensures.value)),
+    )
+
+pub returns : goal.returns
+returns c =
+    let a = c.args in
+    let f = pattern_at a.first in
+    c.loop-i.invariant.1 ∙ up_to_all (fixed f) c.loop-i.i _ (omega arith) ∙ each-fixed f _
