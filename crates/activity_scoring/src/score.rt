@@ -32,6 +32,7 @@ pub fn haplotype_caller_activity_profile_state_single_sample(
 
 // The same score from tables that `fill_tables` filled once. Each carries the settings that it was filled for; one that
 // carries others than these, or is of another length, is not looked at.
+#[tactic(auto, using(std::proofs::lemmas::Bool::Decides::nat_tests), unfolding(crate::specs::Score::score_with))]
 pub fn haplotype_caller_activity_profile_state_by_tables(
     contig: u32,
     pos: GenomePosition,

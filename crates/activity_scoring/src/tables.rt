@@ -8,6 +8,7 @@ use genotype_likelihoods::HaplotypeCallerActivityScoringParams;
 
 // Fills the front of both slices for these settings. Refuses a setting outside its range, then a slice that is shorter
 // than `contribution_table::table_length` or `genotype_posterior::priors_length`; a refusal writes nothing.
+#[tactic(auto, using(std::proofs::lemmas::Bool::Decides::nat_tests), unfolding(crate::specs::Tables::fill_verdict))]
 pub fn fill_tables(
     table: &mut [f64],
     priors: &mut [f64],

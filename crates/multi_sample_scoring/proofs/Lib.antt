@@ -5,3 +5,4 @@ pub mod Piles
 pub mod Accepted
 pub mod Tables
 pub mod Members
+pub mod ByCount

@@ -32,6 +32,7 @@ pub fn haplotype_caller_activity_profile_state_multi_sample(
 }
 
 // The same score from tables that `activity_scoring::fill_tables` filled, as for one pile.
+#[tactic(auto, using(std::proofs::lemmas::Bool::Decides::nat_tests), unfolding(crate::specs::Sets::set_score_with))]
 pub fn haplotype_caller_activity_profile_state_multi_sample_by_tables(
     contig: u32,
     pos: GenomePosition,
@@ -93,6 +94,7 @@ fn set_state(
 }
 
 // The activity of a set. With one pile left, the run is that pile.
+#[tactic(auto, using(crate::proofs::ByCount::by_count))]
 fn set_activity(
     words: &[u32],
     lengths: &[u32],
