@@ -38,6 +38,7 @@ pub(crate) fn count_left(lengths: &[u32]) -> usize
     left
 }
 
+#[tactic(auto, using(std::proofs::lemmas::Bool::Decides::nat_tests))]
 fn with_length(left: usize, n: u32) -> usize
     requires { left < 18446744073709551615 }
     ensures { result ≡ with_length left n }

@@ -6,6 +6,7 @@ ghost use Rattle.multi_sample_scoring.specs.Passed.{with_pile};
 use genotype_likelihoods::HaplotypeCallerActivityScoringParams;
 
 // The probability that no sample is active, after one pile more.
+#[tactic(auto, using(std::proofs::lemmas::Bool::Decides::nat_tests), unfolding(crate::specs::Passed::with_pile, activity_scoring::specs::Tables::activity_by))]
 pub(crate) fn with_pile(
     inactive_prob: f64,
     pile: &[u32],

@@ -15,6 +15,7 @@ pub fn as_u64(x: f64) -> u64
     0
 }
 
+#[tactic(auto, using(crate::specs::Casts::narrower))]
 pub fn as_u32(x: f64) -> u32
     ensures { result ≡ to_unsigned 32 x }
 {

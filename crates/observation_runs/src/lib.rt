@@ -52,6 +52,7 @@ fn take_run(
 }
 
 // How many observations stand at the front.
+#[tactic(auto, using(crate::proofs::Front::front))]
 fn run_length(words: &[u32]) -> usize
     ensures { (result ≤ length words.now) × (result ≡ first_at is_other words.now) }
 {

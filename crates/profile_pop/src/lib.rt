@@ -16,6 +16,7 @@ use profile_record::is_broken;
 use region_cells::{find_first_activity_boundary, peak_index};
 
 // Pops the next region that is ready, from the cells that are lent with the record. Refuses a broken record, then a region size of 0.
+#[tactic(auto, using(std::proofs::lemmas::Bool::Decides::nat_tests), unfolding(activity_profile::specs::Pop::pop_answer, activity_profile::specs::Pop::pop_cells, activity_profile::specs::Pop::pop_verdict, activity_profile::specs::Pop::turn, activity_profile::specs::Pop::pop_answer_by, activity_profile::specs::Pop::pop_cells_by))]
 pub fn try_pop_next_ready_region(
     p: BandPassActivityProfile,
     cells: &mut [f64],

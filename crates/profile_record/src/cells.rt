@@ -10,6 +10,7 @@ use genome::Refusal;
 // "held" or "empty": no add of theirs is refused for want of cells, and with one fewer there are adds that are. The filter
 // size is that of the profile's record; max filter in its place is never too little. Refuses a number outside its range,
 // then a max of 0.
+#[tactic(auto, using(std::proofs::lemmas::Bool::Decides::nat_tests), unfolding(activity_profile::specs::Cells::cells_needed))]
 pub fn cells_needed(
     max_region_size: u32,
     max_prob_propagation_distance: u32,

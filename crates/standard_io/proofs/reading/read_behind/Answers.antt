@@ -29,7 +29,7 @@ returns-clause-taken g c =
         bytes_left = c.keep_rest-rest.ensures.bytes_after;
       };
       came = take got block;
-      some = rw (length-take-le got block fits) (omega (arith, c.if-got-eq0.false));
+      some = rw (length-take-le got block fits) (omega arith);
       behind = seam front (block ++ rest) a.from got front_length ∙ ap (λ (l : List ℕ). front ++ l) (take-append-le got block rest fits);
       taken = c.in_ok-got.ensures.ok;
     }
