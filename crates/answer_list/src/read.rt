@@ -14,7 +14,7 @@ enum Read {
 }
 
 // Reads the next answer from the reader; its words stand at the front of the lent slice. A read that fails is an error, and
-// leaves the slice with what was read before it.
+// the slice may hold words of that answer then.
 pub fn read_answer<R: io::Read>(reader: &mut R, words: &mut [u64]) -> io::Result<Answer>
     ensures ok { IfOk result (λ answer. FitsIn (length words.new) answer) }
     ensures err { OnErr result (length words.new ≡ length words.old) }

@@ -7,9 +7,10 @@ ghost use Rattle.std.specs.Prelude.{◌<◌};
 use answer_list::Answer;
 use region_print::Form;
 use region_program::{PRIORS, TABLE};
-use std::io::{BufReader, Read};
+use std::env::FillError;
+use std::io::Read;
 use std::rt::{Env, Files};
-use std::{env, fs, io};
+use std::{fs, io};
 
 // The functions that an answer may be of, and 0 for any other.
 const FUNCTIONS: usize = 21;
@@ -17,35 +18,49 @@ const FUNCTIONS: usize = 21;
 // The words of the longest answer.
 const ANSWER: usize = 16384;
 
+// The bytes of the longest name that the system opens.
+const NAME: usize = 4096;
+
 // Replays the files that the program's arguments name, and prints how many answers of each function agree.
-pub fn replay_arguments<R: Env + Files + Print + Eprint + Alloc>(rt: &R) -> io::Result<()> {
+pub fn replay_arguments<R: Env + Files + Print + Eprint>(rt: &R) -> io::Result<()> {
     let mut asked = [0u64; FUNCTIONS];
     let mut agreed = [0u64; FUNCTIONS];
     let mut table = [0.0f64; TABLE];
     let mut priors = [0.0f64; PRIORS];
     stream_profile::fill_tables(&mut table, &mut priors);
-    for name in env::args(rt)?.skip(1) {
-        replay_file(rt, &name, &mut asked, &mut agreed, &table, &priors)?;
+    let mut name = [0u8; NAME];
+    for i in 1..usize::MAX {
+        match rt.arg(i, &mut name) {
+            Ok(n) => {
+                let bytes = &name[..n];
+                replay_file(rt, bytes, &mut asked, &mut agreed, &table, &priors)?;
+            }
+            Err(FillError::TooLong) => eprintln!(rt; "argument {i}: longer than {NAME} bytes")?,
+            Err(FillError::NotPresent) => break,
+        }
     }
     report(rt, asked, agreed)
 }
 
-// Replays the file of that name. One that cannot be opened is told on standard error, and left out.
-fn replay_file<R: Files + Eprint + Alloc>(
+// Replays the file of that name. One that cannot be opened, or whose name is not UTF-8, is told on standard error, and
+// left out.
+fn replay_file<R: Files + Eprint>(
     rt: &R,
-    name: &str,
+    bytes: &[u8],
     asked: &mut [u64; FUNCTIONS],
     agreed: &mut [u64; FUNCTIONS],
     table: &[f64; TABLE],
     priors: &[f64; PRIORS],
 ) -> io::Result<()> {
-    let file = match fs::open(rt, name) {
+    let Ok(name) = std::str::from_utf8(bytes) else {
+        return eprintln!(rt; "a name is not UTF-8");
+    };
+    let mut file = match fs::open(rt, name) {
         Ok(file) => file,
         Err(e) => return eprintln!(rt; "{name}: {e}"),
     };
-    let mut reader = BufReader::new(rt.alloc(), file)?;
     let mut words = [0u64; ANSWER];
-    replay_list(&mut reader, &mut words, asked, agreed, table, priors)
+    replay_list(&mut file, &mut words, asked, agreed, table, priors)
 }
 
 // Replays the answers of a list to its end.

@@ -1,18 +1,43 @@
 // Writing text.
-ghost use Rattle.std.specs.Prelude.{◌≤◌, length, take, ◌≡◌, OnOk};
+ghost use Rattle.std.specs.Prelude.{◌≤◌, length, take, ◌≡◌, OnOk, OnErr};
 ghost use Rattle.std.specs.Io.KnownBytes.{Appends};
+ghost use Rattle.standard_io.specs.Written.{FrontWritten};
 
 use crate::BLOCK;
 use std::io;
-use std::io::Write;
+use std::io::{ErrorKind, Write};
 
 // Writes the first n bytes of a block, or all where there are fewer, in their order. A write that fails or takes nothing is
-// an error, and no byte behind it is written; one that a signal interrupts is tried again. What becomes of bytes that the
-// system takes is outside the logic: the clause is of a writer whose bytes are known.
+// an error: a front of those bytes was written then, and no byte behind it is. One that a signal interrupts is tried
+// again. What becomes of bytes that the system takes is outside the logic: the clauses are of a writer whose bytes are known.
 pub fn write_front<W: Write>(writer: &mut W, block: &[u8; BLOCK], n: usize) -> io::Result<()>
-    ensures { OnOk result (Appends (W.contents writer.old) (W.contents writer.new) (take n block.now)) }
+    ensures ok { OnOk result (Appends (W.contents writer.old) (W.contents writer.new) (take n block.now)) }
+    ensures err { OnErr result (FrontWritten (W.contents writer.old) (W.contents writer.new) (take n block.now)) }
 {
-    writer.write_all(first(block, n))
+    write_all(writer, first(block, n))
+}
+
+// Writes every byte in its order, or stops at a write that fails or takes nothing. One that a signal interrupts is tried again.
+fn write_all<W: Write>(writer: &mut W, bytes: &[u8]) -> io::Result<()>
+    ensures ok { OnOk result (Appends (W.contents writer.old) (W.contents writer.new) bytes.now) }
+    ensures err { OnErr result (FrontWritten (W.contents writer.old) (W.contents writer.new) bytes.now) }
+{
+    let mut done = 0;
+    for _ in 0..u64::MAX {
+        if done == bytes.len() {
+            return Ok(());
+        }
+        match writer.write(&bytes[done..]) {
+            Ok(0) => return Err(io::Error::from(ErrorKind::WriteZero)),
+            Ok(got) => done += got,
+            Err(e) => {
+                if e.kind() != ErrorKind::Interrupted {
+                    return Err(e);
+                }
+            }
+        }
+    }
+    Err(io::Error::from(ErrorKind::Interrupted))
 }
 
 fn first<'a>(bytes: &'a [u8], n: usize) -> &'a [u8]
