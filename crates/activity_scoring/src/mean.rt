@@ -49,6 +49,7 @@ fn is_next_to_clip(w: u32) -> bool
     w / NEXT_TO_CLIP % 4 == 3
 }
 
+#[tactic(auto, unfolding(crate::specs::Mean::with_word))]
 fn with_word(r: RunningMean, w: u32, params: HaplotypeCallerActivityScoringParams) -> RunningMean
     requires { r.count < 18446744073709551615 }
     ensures { result ≡ with_word params r w }

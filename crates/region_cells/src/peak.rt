@@ -57,6 +57,7 @@ fn after_the_rest(cells: &[f64], from: usize, first: usize) -> usize
 }
 
 // The leader once cell i had its turn: that cell only if it is strictly above.
+#[tactic(auto, using(crate::proofs::Fours::takes_lead, crate::proofs::Fours::leaves_lead))]
 fn after_turn(cells: &[f64], i: usize, leader: usize) -> usize
     requires { (leader < i) × (i < length cells.now) }
     ensures { (result ≡ leads cells.now i leader) × (result < i + 1) }
