@@ -18,7 +18,7 @@ const FUNCTIONS: usize = 21;
 // The words of the longest answer.
 const ANSWER: usize = 16384;
 
-// The bytes of the longest name that the system opens.
+// The bytes of the longest name that the system opens, with the 0 behind it.
 const NAME: usize = 4096;
 
 // Replays the files that the program's arguments name, and prints how many answers of each function agree.
