@@ -1,6 +1,6 @@
 // Reading an answer from a reader.
 ghost use Rattle.std.specs.Prelude.{◌≡◌, ◌<◌, ◌≤◌, length, IfOk, OnErr};
-ghost use Rattle.answer_list.specs.Read.{FitsIn};
+ghost use Rattle.answer_list.specs.Read.{FitsIn, Begun};
 
 use crate::Answer;
 use std::io;
@@ -14,10 +14,10 @@ enum Read {
 }
 
 // Reads the next answer from the reader; its words stand at the front of the lent slice. A read that fails is an error, and
-// the slice may hold words of that answer then.
+// leaves the slice behind the words that had come by then as it was, and so its last word.
 pub fn read_answer<R: io::Read>(reader: &mut R, words: &mut [u64]) -> io::Result<Answer>
     ensures ok { IfOk result (λ answer. FitsIn (length words.new) answer) }
-    ensures err { OnErr result (length words.new ≡ length words.old) }
+    ensures err { OnErr result (Begun words.old words.new) }
 {
     let head = read_word(reader)?;
     let Read::Word(function) = head else {
@@ -40,6 +40,8 @@ pub fn read_answer<R: io::Read>(reader: &mut R, words: &mut [u64]) -> io::Result
 // Reads n words; false where the list ends before.
 fn read_words<R: io::Read>(reader: &mut R, words: &mut [u64], n: usize) -> io::Result<bool>
     requires { n ≤ length words.old }
+    ensures same_length { length words.new ≡ length words.old }
+    ensures err { OnErr result (Begun words.old words.new) }
 {
     let mut i = 0;
     while i < n {
