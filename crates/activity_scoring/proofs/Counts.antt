@@ -1,6 +1,6 @@
 -- A word counts once at most, a pile without clips has no mean, and the ranges bound the ploidy. Assumes nothing.
 use Rattle.std.proofs.Common.{◌≡◌, ℕ, ◌+◌, ◌≤◌, Bool, true, false, cond, not, ◌&&◌, T, List, [], ◌∷◌, sym, refl, ◌∙◌, subst, arith, leb-true}
-use Rattle.lists.specs.Loops.{foldl}
+use Rattle.std.specs.List.{fold}
 use Rattle.lists.specs.Tests.{and_left, and_right}
 use Rattle.genome.specs.declared.GenomePosition.{GenomePosition}
 use Rattle.genotype_likelihoods.specs.declared.HaplotypeCallerActivityScoringParams.{HaplotypeCallerActivityScoringParams}
@@ -23,18 +23,17 @@ and_false : (b : Bool) → (b && false) ≡ false
 and_false true = refl
 and_false false = refl
 
-or_stays : (words : List ℕ) → foldl or_next_to_clip true words ≡ true
-unfolding foldl
+or_stays : (words : List ℕ) → fold or_next_to_clip true words ≡ true
 or_stays [] = refl
 or_stays (w ∷ words) = or_stays words
 
 -- with no word next to a clip the mean stays as it is
-pub no_clips : (s : HaplotypeCallerActivityScoringParams) (r : RunningMean) (words : List ℕ) → foldl or_next_to_clip false words ≡ false → foldl (with_word s) r words ≡ r
-unfolding foldl with_word
+pub no_clips : (s : HaplotypeCallerActivityScoringParams) (r : RunningMean) (words : List ℕ) → fold or_next_to_clip false words ≡ false → fold (with_word s) r words ≡ r
+unfolding with_word
 no_clips s r [] e = refl
 no_clips s r (w ∷ words) e = go (next_to_clip w) refl (λ h. no_clips s r words h)
   where
-    go : (b : Bool) → next_to_clip w ≡ b → (foldl or_next_to_clip false words ≡ false → foldl (with_word s) r words ≡ r) → foldl (with_word s) (with_word s r w) words ≡ r
+    go : (b : Bool) → next_to_clip w ≡ b → (fold or_next_to_clip false words ≡ false → fold (with_word s) r words ≡ r) → fold (with_word s) (with_word s r w) words ≡ r
     go true h rest = absurd (subst T (sym (or_stays words) ∙ rw h at e) tt)
     go false h rest =
         let none : counts s w ≡ false = rw h (and_false (not (skipped s w))) in

@@ -1,12 +1,12 @@
 -- 02, U3: words that are skipped settle nothing, wherever they stand. Assumes nothing.
 use Rattle.std.specs.Prelude.{◌≡◌, ℕ, suc, ◌+◌, ◌-◌, ◌<◌, ◌≤◌, Bool, true, false, cond, not, List, [], ◌∷◌, length, replicate, pos, nat_lt, slice_index, refl, Float}
+use Rattle.std.specs.List.{fold}
 use Rattle.std.proofs.Common.{sym, ap, ◌∙◌, le_trans, add-one, arith, leb-true, ltb-false, le-ltb, ne_eqb}
 use Rattle.std.specs.Float.{binary64}
 use Rattle.std.specs.Float.Ieee.{of_bits, of_int, round, sum, add, sub, mul, neg, lt}
-use Rattle.lists.specs.Loops.{foldl}
 use Rattle.lists.specs.Folds.{each_alike}
 use Rattle.lists.specs.Tests.{and_left, and_right, not_false}
-use Rattle.lists.specs.Without.{without, length_without, without_all, foldl-without, all_without, all_pass}
+use Rattle.lists.specs.Without.{without, length_without, without_all, fold-without, all_without, all_pass}
 use Rattle.doubles.specs.Constants.{zero_f}
 use Rattle.double_ranges.specs.Size.{Size}
 use Rattle.double_ranges.specs.Quotients.{none-less-none}
@@ -48,7 +48,7 @@ log10_finite p h l =
     log10_size (whole p) a.fit a.above (finite_below 40 (whole p) a.size)
 
 no_likelihoods : (s : HaplotypeCallerActivityScoringParams) (n : ℕ) → settings_in_range s ≡ true → likelihoods s n [] ≡ replicate n zero_f
-unfolding likelihoods foldl of_int of_bits
+unfolding likelihoods of_int of_bits
 no_likelihoods s n e =
     let r = ploidy_range s e in
     each_alike (less (mul binary64 (of_int binary64 (pos 0)) (log10_whole s.sample_ploidy.0))) n zero_f zero_f (λ k. none-less-none 89 (log10_whole s.sample_ploidy.0) (log10_finite s.sample_ploidy.0 r.0 r.1))
@@ -64,7 +64,7 @@ no_activity_lem s e =
     rw (add-one, no_likelihoods s (suc n) e, rounded_alike n, posterior_alike s.snp_heterozygosity s.heterozygosity_standard_deviation (suc n), first_largest (suc n), alike_less)
 
 no_evidence : (s : HaplotypeCallerActivityScoringParams) → evidence_of (mean_of s []) ≡ Plain
-unfolding evidence_of mean_of foldl lt of_bits
+unfolding evidence_of mean_of lt of_bits
 no_evidence s = refl
 
 -- so the formulas hold of the empty pile too
@@ -78,7 +78,7 @@ by_formulas contig p (w ∷ words) s e = rw (ne_eqb (suc (length words)) 0 (λ h
 
 mean_without : (s : HaplotypeCallerActivityScoringParams) (words : List ℕ) → mean_of s (without (skipped s) words) ≡ mean_of s words
 unfolding mean_of with_word
-mean_without s words = ap (λ r. r.mean) (foldl-without (skipped s) (with_word s) none words (λ r w e. rw e))
+mean_without s words = ap (λ r. r.mean) (fold-without (skipped s) (with_word s) none words (λ r w e. rw e))
 
 activity_without : (s : HaplotypeCallerActivityScoringParams) (words : List ℕ) → activity_of (without (skipped s) words) s ≡ activity_of words s
 unfolding activity_of

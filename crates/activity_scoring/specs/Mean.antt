@@ -1,8 +1,8 @@
 -- 01, Scoring: "The Rust's running mean of the clip counts of alt words next to a clip and not skipped".
 use Rattle.std.specs.Prelude.{ℕ, ◌+◌, Bool, cond, not, ◌&&◌, ◌||◌, List, pos, Float}
+use Rattle.std.specs.List.{fold}
 use Rattle.std.specs.Float.{binary64}
 use Rattle.std.specs.Float.Ieee.{of_int, add, sub, div}
-use Rattle.lists.specs.Loops.{foldl}
 use Rattle.doubles.specs.Constants.{zero_f}
 use Rattle.genotype_likelihoods.specs.declared.HaplotypeCallerActivityScoringParams.{HaplotypeCallerActivityScoringParams}
 use Rattle.pileup_words.specs.Words.{observation}
@@ -31,7 +31,7 @@ abbrev pub none : RunningMean
 none = record { count = 0; mean = zero_f }
 
 unfoldable pub mean_of : HaplotypeCallerActivityScoringParams → List ℕ → Float
-mean_of s words = (foldl (with_word s) none words).mean
+mean_of s words = (fold (with_word s) none words).mean
 
 -- whether there is such a word, skipped or not
 abbrev pub or_next_to_clip : Bool → ℕ → Bool

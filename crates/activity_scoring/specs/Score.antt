@@ -1,9 +1,9 @@
 -- 01, Scoring: haplotype_caller_activity_profile_state_single_sample, which in the Rust is
 -- haplotype_caller_activity_profile_state_minimal_genotyping.
 use Rattle.std.specs.Prelude.{ℕ, ◌+◌, Bool, true, cond, not, ◌&&◌, List, length, ◌==◌, from_bits, nat_lt, slice_index_or, Float}
+use Rattle.std.specs.List.{fold}
 use Rattle.std.specs.Float.{binary64, nan}
 use Rattle.std.specs.Float.Ieee.{to_unsigned, sub, lt}
-use Rattle.lists.specs.Loops.{foldl}
 use Rattle.doubles.specs.Constants.{zero_f}
 use Rattle.genome.specs.declared.GenomePosition.{GenomePosition}
 use Rattle.genome.specs.Refusals.{number_of, Outcome, refused, answered, setting_refusal, word_refusal, depth_refusal}
@@ -38,7 +38,7 @@ abbrev pub and_observation : Bool → ℕ → Bool
 and_observation b w = b && is_observation w
 
 abbrev pub all_observations : List ℕ → Bool
-all_observations words = foldl and_observation true words
+all_observations words = fold and_observation true words
 
 -- ---- the state
 

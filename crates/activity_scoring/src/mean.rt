@@ -1,6 +1,6 @@
 // The running mean of clip counts.
 ghost use Rattle.std.specs.Prelude.{◌≡◌, ◌<◌, false};
-ghost use Rattle.lists.specs.Loops.{foldl};
+ghost use Rattle.std.specs.List.{fold};
 ghost use Rattle.activity_scoring.specs.Mean.{next_to_clip, or_next_to_clip, with_count, with_word, mean_of};
 
 use crate::RunningMean;
@@ -31,7 +31,7 @@ pub fn hq_soft_clip_running_mean_rcm_path(
 
 // Whether any observation is alternate and next to a soft clip, skipped or not. Few piles have one, and only those need a mean.
 fn has_clips(pile: &[u32]) -> bool
-    ensures { result ≡ foldl or_next_to_clip false pile.now }
+    ensures { result ≡ fold or_next_to_clip false pile.now }
 {
     let mut found = false;
     let mut i = 0;

@@ -1,6 +1,6 @@
 // Comparing results with the words of an answer, from a place on.
 ghost use Rattle.std.specs.Prelude.{◌≡◌, true, ◌&&◌, length, ◌==◌};
-ghost use Rattle.lists.specs.Loops.{foldl};
+ghost use Rattle.std.specs.List.{fold};
 ghost use Rattle.answer_list.specs.Compare.{with_word, with_double};
 
 use crate::Compared;
@@ -37,7 +37,7 @@ impl Compared {
 
     // With the elements of a slice compared, one after the other.
     pub fn doubles(self, words: &[u64], xs: &[f64]) -> Compared
-        ensures { result ≡ foldl (with_double words.now) self xs.now }
+        ensures { result ≡ fold (with_double words.now) self xs.now }
     {
         let mut c = self;
         let mut i = 0;

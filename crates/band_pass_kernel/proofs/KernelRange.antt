@@ -1,9 +1,9 @@
 -- Within document 01's ranges every entry of a kernel is in 0 to 1, and so none is a NaN. Assumes nothing.
 use Rattle.std.proofs.Common.{◌≡◌, ℕ, zero, suc, ◌+◌, ◌<◌, ◌≤◌, true, false, T, List, [], ◌∷◌, length, get_or, pos, sym, refl, ap, ◌∙◌, subst, arith, lit≤}
+use Rattle.std.specs.List.{fold}
 use lib.Ieee.{Float, nan, inf, fin, binary64, of_bits, of_int, add, sub, mul, div, neg, lt, le, fits}
 use lib.Ieee.Fits.{add-fits, div-fits}
 use Rattle.lists.specs.Each.{get_or-each, tabulate, length-tabulate, get_or-tabulate}
-use Rattle.lists.specs.Loops.{foldl}
 use Rattle.lists.specs.Loops as Loops
 use Rattle.lists.specs.Tests.{and_left, and_right}
 use Rattle.doubles.specs.Constants.{zero_f, one_f, two_f}
@@ -187,8 +187,7 @@ each_one : (x : Float) (l : List Float) (r : Float) → AtMost x r → ((i : ℕ
 each_one x l r a f zero b = a
 each_one x l r a f (suc i) b = f i (omega (arith, b))
 
-sum_range : (l : List Float) → ((i : ℕ) → i < length l → Entry (get_or l i nan)) → (k : ℕ) → 6 ≤ k → k + length l ≤ 1023 → (s : Float) → Summed k s → Total l s (foldl plus s l) (k + length l)
-unfolding foldl
+sum_range : (l : List Float) → ((i : ℕ) → i < length l → Entry (get_or l i nan)) → (k : ℕ) → 6 ≤ k → k + length l ≤ 1023 → (s : Float) → Summed k s → Total l s (fold plus s l) (k + length l)
 sum_range [] all k h g s p = record {
   summed = subst (λ (n : ℕ). Summed n s) (omega arith) p;
   from_start = at_most_refl s (number_of k s p.size);
@@ -199,7 +198,7 @@ sum_range (x ∷ l) all k h g s p =
     let x_size = size_mono 6 k x h e.size in
     let more : Summed (k + 1) (add binary64 s x) = record { plus_sign = add-plus k k s x p.size x_size p.plus_sign e.plus_sign; size = add_size k s x (omega (arith, g)) p.size x_size; fit = add-fits binary64 s x } in
     let rest = sum_range l (λ i b. all (suc i) (omega (arith, b))) (k + 1) (omega (arith, h)) (omega (arith, g)) (add binary64 s x) more in
-    let r = foldl plus (add binary64 s x) l in
+    let r = fold plus (add binary64 s x) l in
     record {
       summed = subst (λ (n : ℕ). Summed n r) (omega arith) rest.summed;
       from_start = at_most_trans s (add binary64 s x) r (add-at_most k s x p.fit p.size x_size e.plus_sign) rest.from_start;
@@ -224,7 +223,7 @@ kernel_unit f sd few range i h =
     let entry : (k : ℕ) → k < length l → Entry (get_or l k nan) = λ k b. subst Entry (sym (at k (omega (arith, long, b)))) (density_entry sd range f k (omega (arith, few)) (omega (arith, few, long, b))) in
     let start : Summed 6 zero_f = record { plus_sign = zero_plus; size = size_mono 0 6 zero_f (lit≤ tt) zero_size_lem; fit = zero_fits } in
     let sums = sum_range l entry 6 (lit≤ tt) (omega (arith, few, long)) zero_f start in
-    let r = foldl plus zero_f l in
+    let r = fold plus zero_f l in
     let middle : AtMost (density f sd f) r = subst (λ (x : Float). AtMost x r) (at f (omega arith)) (sums.from_each f (omega (arith, long))) in
     let above : Least 14 r = least_up 14 (6 + length l) (density f sd f) r (density_middle sd range f (omega (arith, few))) middle sums.summed.size in
     let e = entry i (omega (arith, long, h)) in

@@ -1,8 +1,8 @@
 -- 01, Kernel. Each step is one double operation.
 use Rattle.std.specs.Prelude.{ℕ, zero, suc, ◌+◌, ◌-◌, ◌*◌, ◌/◌, cond, List, length, pos, from_bits, slice_index_or, Float}
+use Rattle.std.specs.List.{fold}
 use Rattle.std.specs.Float.{nan, binary64}
 use Rattle.std.specs.Float.Ieee.{of_int, add, sub, mul, div, neg, le}
-use Rattle.lists.specs.Loops.{foldl}
 use Rattle.lists.specs.Each.{each, tabulate}
 use Rattle.doubles.specs.Constants.{zero_f, two_f}
 use Rattle.elementary.specs.Exp.{exp_of}
@@ -30,7 +30,7 @@ abbrev pub plus : Float → Float → Float
 plus sum x = add binary64 sum x
 
 unfoldable pub total : List Float → Float
-total l = foldl plus zero_f l
+total l = fold plus zero_f l
 
 abbrev pub over : Float → ℕ → Float → Float
 over sum i x = div binary64 x sum

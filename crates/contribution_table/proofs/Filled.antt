@@ -1,15 +1,15 @@
 -- By a table that was filled, for whatever settings, the likelihoods are the plain ones of the call's settings, bit for bit: for every slice that the table was
 -- filled into, every part of it from the front, every number of genotypes and every pile. A table of other settings is not read. Assumes nothing.
 use Rattle.std.specs.Prelude.{◌≡◌, ℕ, zero, suc, ◌+◌, ◌-◌, ◌*◌, ◌/◌, ◌%◌, ◌<◌, ◌≤◌, Bool, true, false, cond, ◌&&◌, List, length, get_or, drop, replicate, pos, ◌==◌, nat_le, nat_lt, slice_index_or, refl, Float}
+use Rattle.std.specs.List.{fold}
 use Rattle.std.proofs.Math.Path.{sym}
 use Rattle.std.proofs.Common.{ap, ◌∙◌, add-zero, lt-ltb, le-ltb, leb-true, ltb-true, ltb-false, eqb-true, ne_eqb, ext_get_or, get_or-drop}
 use Rattle.std.proofs.Math.Nat.{mul-le-mul_right, mul-add-div_right, mul-add-mod_self_right, div-eq_of_lt, mod-eq_of_lt}
 use native.Mathlib.Omega.{arith}
 use Rattle.std.specs.Float.{binary64, nan}
 use Rattle.std.specs.Float.Ieee.{of_int, add, mul}
-use Rattle.lists.specs.Loops.{foldl}
 use Rattle.lists.specs.Each.{each, get_or-each, length-each, tabulate, length-tabulate, get_or-tabulate}
-use Rattle.lists.specs.Folds.{foldl-each, foldl-same, each-replicate, each-tabulate}
+use Rattle.lists.specs.Folds.{fold-each, fold-same, each-replicate, each-tabulate}
 use Rattle.lists.specs.Tests.{and_left, and_right}
 use Rattle.doubles.specs.Constants.{zero_f}
 use Rattle.numbers.specs.Same.{same_positive, same_is, none_is_nan, none_is_zero, whole_is}
@@ -49,17 +49,17 @@ taken-each s gl w = go (skipped s w)
 
 -- the words counted × log10 ploidy
 abbrev plain_share : HaplotypeCallerActivityScoringParams → List ℕ → Float
-plain_share s words = mul binary64 (of_int binary64 (pos (foldl (counted s) 0 words))) (log10_whole (ploidy_of s))
+plain_share s words = mul binary64 (of_int binary64 (pos (fold (counted s) 0 words))) (log10_whole (ploidy_of s))
 
 plain_likelihoods : (s : HaplotypeCallerActivityScoringParams) (n : ℕ) (words : List ℕ)
-    → likelihoods s n words ≡ tabulate (λ i. less (plain_share s words) i (foldl (plain_at s i) zero_f words)) n
+    → likelihoods s n words ≡ tabulate (λ i. less (plain_share s words) i (fold (plain_at s i) zero_f words)) n
 unfolding likelihoods
 plain_likelihoods s n words =
     ap (each (less (plain_share s words)))
-    (foldl-same (taken s) (λ (gl : List Float) (w : ℕ). each (λ i x. plain_at s i x w) gl) (replicate n zero_f) words (taken-each s)
-    ∙ foldl-each (plain_at s) (replicate n zero_f) words
-    ∙ each-replicate (λ i x. foldl (plain_at s i) x words) n zero_f)
-    ∙ each-tabulate (less (plain_share s words)) (λ i. foldl (plain_at s i) zero_f words) n
+    (fold-same (taken s) (λ (gl : List Float) (w : ℕ). each (λ i x. plain_at s i x w) gl) (replicate n zero_f) words (taken-each s)
+    ∙ fold-each (plain_at s) (replicate n zero_f) words
+    ∙ each-replicate (λ i x. fold (plain_at s i) x words) n zero_f)
+    ∙ each-tabulate (less (plain_share s words)) (λ i. fold (plain_at s i) zero_f words) n
 
 -- ---- what a table that was filled holds
 
@@ -156,13 +156,13 @@ taken-same s rs held few i h x w = go (skipped s w) refl
 
 by_rows : (s : HaplotypeCallerActivityScoringParams) (rs : List Float) → Rows s rs → s.ref_model_deletion_qual < missing_quality
     → (n : ℕ) → n ≤ row_length (ploidy_of s) → (words : List ℕ)
-    → tabulate (likelihood_at rs s words (foldl (counted s) 0 words)) n ≡ likelihoods s n words
+    → tabulate (likelihood_at rs s words (fold (counted s) 0 words)) n ≡ likelihoods s n words
 by_rows s rs held few n h words =
-    let f = likelihood_at rs s words (foldl (counted s) 0 words) in
-    let g : ℕ → Float = λ i. less (plain_share s words) i (foldl (plain_at s i) zero_f words) in
+    let f = likelihood_at rs s words (fold (counted s) 0 words) in
+    let g : ℕ → Float = λ i. less (plain_share s words) i (fold (plain_at s i) zero_f words) in
     let at : (k : ℕ) → k < length (tabulate f n) → slice_index_or (tabulate f n) k nan ≡ get_or (tabulate g n) k nan = λ k below.
     let less-n : k < n = rw (length-tabulate f n) at below in
-    let same : f k ≡ g k = rw (last s rs held, foldl-same (taken_at rs s k) (plain_at s k) zero_f words (taken-same s rs held few k (omega arith))) in
+    let same : f k ≡ g k = rw (last s rs held, fold-same (taken_at rs s k) (plain_at s k) zero_f words (taken-same s rs held few k (omega arith))) in
     get_or-tabulate f n k nan less-n ∙ same ∙ sym (get_or-tabulate g n k nan less-n) in
     ext_get_or nan (tabulate f n) (tabulate g n) (length-tabulate f n ∙ sym (length-tabulate g n)) at ∙ sym (plain_likelihoods s n words)
 
@@ -175,7 +175,7 @@ unfolding likelihoods_by serves
 likelihoods_by-filled s t table n words held few small = go (in_rows s n && is_for table s) refl
   where
     go : (b : Bool) → (in_rows s n && is_for table s) ≡ b
-        → cond b (tabulate (likelihood_at (drop heading table) s words (foldl (counted s) 0 words)) n) (likelihoods s n words) ≡ likelihoods s n words
+        → cond b (tabulate (likelihood_at (drop heading table) s words (fold (counted s) 0 words)) n) (likelihoods s n words) ≡ likelihoods s n words
     go true e =
         let inside = and_left (in_rows s n) _ e in
         by_rows s (drop heading table) (rows-held s t table held few small (and_right (in_rows s n) _ e)) (ltb-true _ _ (and_right (nat_le n (row_length (ploidy_of s))) _ inside)) n
@@ -187,7 +187,7 @@ unread : (s : HaplotypeCallerActivityScoringParams) (table : List Float) (n : �
 unfolding likelihoods_by serves
 unread s table n words e = rw e (go (in_rows s n))
   where
-    go : (b : Bool) → cond (b && false) (tabulate (likelihood_at (drop heading table) s words (foldl (counted s) 0 words)) n) (likelihoods s n words) ≡ likelihoods s n words
+    go : (b : Bool) → cond (b && false) (tabulate (likelihood_at (drop heading table) s words (fold (counted s) 0 words)) n) (likelihoods s n words) ≡ likelihoods s n words
     go true = refl
     go false = refl
 

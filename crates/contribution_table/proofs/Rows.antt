@@ -1,9 +1,9 @@
 -- Places in the rows of the table, and the sums of a whole slice. Assumes nothing.
 use Rattle.std.proofs.Common.{◌≡◌, ℕ, zero, suc, ◌+◌, ◌*◌, ◌/◌, ◌<◌, ◌≤◌, Bool, true, false, ◌&&◌, eqb, leb, List, length, refl, ◌∙◌, mul-le-mul_right, div-lt_iff_lt-mul, arith, ltb-true, ne_eqb, eqb-true, leb-true}
+use Rattle.std.specs.List.{fold}
 use lib.Ieee.{Float}
 use Rattle.lists.specs.Each.{each, tabulate}
 use Rattle.lists.specs.Folds.{each-tabulate}
-use Rattle.lists.specs.Loops.{foldl}
 use Rattle.lists.specs.Tests.{and_left, and_right}
 use Rattle.genome.specs.Ranges.{missing_quality}
 use Rattle.genotype_likelihoods.specs.declared.HaplotypeCallerActivityScoringParams.{HaplotypeCallerActivityScoringParams}
@@ -44,8 +44,8 @@ other_length table s n h = rw (ne_eqb (length table) (table_length (ploidy_of s)
     and_no false = refl
 
 -- the sums less the share of k words, k being the words counted where there is a genotype
-pub sums_less_share : (table : List Float) (s : HaplotypeCallerActivityScoringParams) (words : List ℕ) (n k : ℕ) → (0 < n → k ≡ foldl (counted s) 0 words)
-    → each (less (share_of table s k)) (tabulate (sum_at table s words) n) ≡ tabulate (likelihood_at table s words (foldl (counted s) 0 words)) n
+pub sums_less_share : (table : List Float) (s : HaplotypeCallerActivityScoringParams) (words : List ℕ) (n k : ℕ) → (0 < n → k ≡ fold (counted s) 0 words)
+    → each (less (share_of table s k)) (tabulate (sum_at table s words) n) ≡ tabulate (likelihood_at table s words (fold (counted s) 0 words)) n
 unfolding tabulate
 sums_less_share table s words zero k h = each-tabulate (less (share_of table s k)) (sum_at table s words) 0
 sums_less_share table s words (suc n) k h = each-tabulate (less (share_of table s k)) (sum_at table s words) (suc n) ∙ rw (h (omega arith))

@@ -1,7 +1,7 @@
 -- Four genotypes at once: their sums go over the words side by side, and the count of words with them.
 use Rattle.std.specs.Prelude.{◌≡◌, ℕ, zero, suc, ◌+◌, ◌*◌, ◌/◌, ◌%◌, ◌<◌, cond, List, [], ◌∷◌, ◌==◌, refl, Float}
+use Rattle.std.specs.List.{fold}
 use Rattle.std.proofs.Common.{ap, ◌∙◌, add-zero, mod-lt, div-add-mod', arith}
-use Rattle.lists.specs.Loops.{foldl}
 use Rattle.doubles.specs.Constants.{zero_f}
 use Rattle.genotype_likelihoods.specs.declared.HaplotypeCallerActivityScoringParams.{HaplotypeCallerActivityScoringParams}
 use Rattle.genotype_likelihoods.specs.Likelihoods.{counted}
@@ -22,7 +22,7 @@ all_taken table s i r w = record {
 }
 
 abbrev pub sums_from : List Float → HaplotypeCallerActivityScoringParams → List ℕ → ℕ → Sums
-sums_from table s words i = foldl (all_taken table s i) no_sums words
+sums_from table s words i = fold (all_taken table s i) no_sums words
 
 -- the sum of the genotype at a place in its four
 unfoldable pub sum_in : Sums → ℕ → Float
@@ -31,15 +31,14 @@ sum_in r k = cond (k == 0) r.a (cond (k == 1) r.b (cond (k == 2) r.c r.d))
 -- each is the sum of its genotype
 abbrev pub four : List Float → HaplotypeCallerActivityScoringParams → List ℕ → ℕ → Sums → Sums
 four table s words i r = record {
-  count = foldl (counted s) r.count words;
-  a = foldl (taken_at table s i) r.a words;
-  b = foldl (taken_at table s (i + 1)) r.b words;
-  c = foldl (taken_at table s (i + 2)) r.c words;
-  d = foldl (taken_at table s (i + 3)) r.d words;
+  count = fold (counted s) r.count words;
+  a = fold (taken_at table s i) r.a words;
+  b = fold (taken_at table s (i + 1)) r.b words;
+  c = fold (taken_at table s (i + 2)) r.c words;
+  d = fold (taken_at table s (i + 3)) r.d words;
 }
 
-sums_apart : (table : List Float) (s : HaplotypeCallerActivityScoringParams) (words : List ℕ) (i : ℕ) (r : Sums) → foldl (all_taken table s i) r words ≡ four table s words i r
-unfolding foldl
+sums_apart : (table : List Float) (s : HaplotypeCallerActivityScoringParams) (words : List ℕ) (i : ℕ) (r : Sums) → fold (all_taken table s i) r words ≡ four table s words i r
 sums_apart table s [] i r = refl
 sums_apart table s (w ∷ words) i r = sums_apart table s words i (all_taken table s i r w)
 
@@ -58,5 +57,5 @@ sum_in-four table s words i =
     ∙ in_four table s words (i / 4 * 4) (i % 4) (mod-lt i (omega arith))
     ∙ ap (sum_at table s words) (div-add-mod' i 4)
 
-pub count_in_four : (table : List Float) (s : HaplotypeCallerActivityScoringParams) (words : List ℕ) (i : ℕ) → (sums_from table s words i).count ≡ foldl (counted s) 0 words
+pub count_in_four : (table : List Float) (s : HaplotypeCallerActivityScoringParams) (words : List ℕ) (i : ℕ) → (sums_from table s words i).count ≡ fold (counted s) 0 words
 count_in_four table s words i = ap (λ (r : Sums). r.count) (sums_apart table s words i no_sums)

@@ -1,9 +1,9 @@
 -- What a word adds to the likelihood of each genotype depends on its quality, whether it is alternate, the genotype, the ploidy and the weight of the
 -- alternate alone: a table of these numbers, which carries the two settings that it was filled for, and the likelihoods by it.
 use Rattle.std.specs.Prelude.{ℕ, ◌+◌, ◌-◌, ◌*◌, ◌/◌, ◌%◌, Bool, cond, ◌&&◌, List, length, drop, pos, ◌==◌, nat_le, nat_lt, slice_index_or, Float}
+use Rattle.std.specs.List.{fold}
 use Rattle.std.specs.Float.{binary64, nan}
 use Rattle.std.specs.Float.Ieee.{of_int, add, sub, mul}
-use Rattle.lists.specs.Loops.{foldl}
 use Rattle.lists.specs.Each.{each, tabulate}
 use Rattle.doubles.specs.Constants.{zero_f}
 use Rattle.numbers.specs.Same.{same_positive}
@@ -79,7 +79,7 @@ taken_at rs s i x w = cond (skipped s w) x (add binary64 x (slice_index_or rs (r
 
 -- genotype i over every word in turn
 abbrev pub sum_at : List Float → HaplotypeCallerActivityScoringParams → List ℕ → ℕ → Float
-sum_at rs s words i = foldl (taken_at rs s i) zero_f words
+sum_at rs s words i = fold (taken_at rs s i) zero_f words
 
 -- n words × log10 ploidy
 abbrev pub share_of : List Float → HaplotypeCallerActivityScoringParams → ℕ → Float
@@ -109,4 +109,4 @@ serves table s n = in_rows s n && is_for table s
 -- a table that does not serve is not looked at
 unfoldable pub likelihoods_by : List Float → HaplotypeCallerActivityScoringParams → ℕ → List ℕ → List Float
 likelihoods_by table s n words =
-    cond (serves table s n) (tabulate (likelihood_at (drop heading table) s words (foldl (counted s) 0 words)) n) (likelihoods s n words)
+    cond (serves table s n) (tabulate (likelihood_at (drop heading table) s words (fold (counted s) 0 words)) n) (likelihoods s n words)

@@ -1,7 +1,7 @@
 // The likelihoods of every genotype over a whole pile, by a table.
 ghost use Rattle.std.specs.Prelude.{◌≡◌, ◌+◌, ◌*◌, ◌/◌, ◌%◌, ◌<◌, ◌≤◌, cond, length};
+ghost use Rattle.std.specs.List.{fold};
 ghost use Rattle.lists.specs.Each.{tabulate};
-ghost use Rattle.lists.specs.Loops.{foldl};
 ghost use Rattle.genome.specs.Ranges.{missing_quality};
 ghost use Rattle.genotype_likelihoods.specs.Likelihoods.{counted};
 ghost use Rattle.contribution_table.specs.Table.{ploidy_of, row_length, rows_length, serves, sum_at, likelihood_at, likelihoods_by};
@@ -57,7 +57,7 @@ fn write_likelihoods(
         × (rows_length (ploidy_of params) ≤ length rows.now)
         × (params.ref_model_deletion_qual < missing_quality) }
     ensures { gl.new
-        ≡ tabulate (likelihood_at rows.now params pile.now (foldl (counted params) 0 pile.now))
+        ≡ tabulate (likelihood_at rows.now params pile.now (fold (counted params) 0 pile.now))
         (length gl.old) }
 {
     let read_count = write_sums(gl, pile, params, rows);
@@ -76,7 +76,7 @@ fn write_sums(
     requires { (length gl.old ≤ row_length (ploidy_of params))
         × (rows_length (ploidy_of params) ≤ length rows.now)
         × (params.ref_model_deletion_qual < missing_quality) }
-    ensures value { 0 < length gl.old → result ≡ foldl (counted params) 0 pile.now }
+    ensures value { 0 < length gl.old → result ≡ fold (counted params) 0 pile.now }
     ensures gl_after { gl.new ≡ tabulate (sum_at rows.now params pile.now) (length gl.old) }
 {
     let mut sums = no_sums();

@@ -1,10 +1,10 @@
 -- 02, U3: which words are skipped, and that they add nothing wherever they stand. Assumes nothing.
 use Rattle.std.specs.Prelude.{◌≡◌, ℕ, ◌<◌, Bool, true, false, cond, not, ◌&&◌, ◌||◌, List, replicate, ◌==◌, nat_lt, refl, Float}
+use Rattle.std.specs.List.{fold}
 use Rattle.std.proofs.Common.{sym, ◌∙◌, true≢false, arith, ne_eqb}
 use Rattle.std.proofs.lemmas.Bool.{eqb-false}
-use Rattle.lists.specs.Loops.{foldl}
 use Rattle.lists.specs.Tests.{and_left, and_right, not_true}
-use Rattle.lists.specs.Without.{without, foldl-without}
+use Rattle.lists.specs.Without.{without, fold-without}
 use Rattle.doubles.specs.Constants.{zero_f}
 use Rattle.genome.specs.Ranges.{missing_quality}
 use Rattle.pileup_words.specs.Words.{observation}
@@ -68,13 +68,13 @@ counted_has_quality s w h e = has_quality s w h (go (is_blank w) refl)
 
 -- ---- and what is skipped adds nothing
 
-pub counted-without : (s : HaplotypeCallerActivityScoringParams) (n : ℕ) (words : List ℕ) → foldl (counted s) n (without (skipped s) words) ≡ foldl (counted s) n words
+pub counted-without : (s : HaplotypeCallerActivityScoringParams) (n : ℕ) (words : List ℕ) → fold (counted s) n (without (skipped s) words) ≡ fold (counted s) n words
 unfolding counted
-counted-without s n words = foldl-without (skipped s) (counted s) n words (λ k w e. rw e)
+counted-without s n words = fold-without (skipped s) (counted s) n words (λ k w e. rw e)
 
-taken-without : (s : HaplotypeCallerActivityScoringParams) (gl : List Float) (words : List ℕ) → foldl (taken s) gl (without (skipped s) words) ≡ foldl (taken s) gl words
+taken-without : (s : HaplotypeCallerActivityScoringParams) (gl : List Float) (words : List ℕ) → fold (taken s) gl (without (skipped s) words) ≡ fold (taken s) gl words
 unfolding taken
-taken-without s gl words = foldl-without (skipped s) (taken s) gl words (λ l w e. rw e)
+taken-without s gl words = fold-without (skipped s) (taken s) gl words (λ l w e. rw e)
 
 -- the likelihoods of a pile are those of the pile without its skipped words
 pub likelihoods-without : (s : HaplotypeCallerActivityScoringParams) (n : ℕ) (words : List ℕ) → likelihoods s n (without (skipped s) words) ≡ likelihoods s n words

@@ -1,9 +1,9 @@
 -- How long the likelihoods are, and how many words are counted. Assumes nothing.
 use Rattle.std.specs.Prelude.{◌≡◌, ℕ, ◌+◌, ◌≤◌, Bool, true, false, cond, List, [], ◌∷◌, length, replicate, refl, Float}
+use Rattle.std.specs.List.{fold}
 use Rattle.std.proofs.Common.{◌∙◌, arith}
 use Rattle.std.proofs.lemmas.List.{length-replicate}
 use Rattle.lists.specs.Each.{each, length-each}
-use Rattle.lists.specs.Loops.{foldl}
 use Rattle.doubles.specs.Constants.{zero_f}
 use Rattle.genotype_likelihoods.specs.declared.HaplotypeCallerActivityScoringParams.{HaplotypeCallerActivityScoringParams}
 use Rattle.pileup_words.specs.Words.{observation}
@@ -29,8 +29,7 @@ counted-le s n w = go (skipped s w)
     go true = omega arith
     go false = omega arith
 
-length_all_taken : (s : HaplotypeCallerActivityScoringParams) (gl : List Float) (words : List ℕ) → length (foldl (taken s) gl words) ≡ length gl
-unfolding foldl
+length_all_taken : (s : HaplotypeCallerActivityScoringParams) (gl : List Float) (words : List ℕ) → length (fold (taken s) gl words) ≡ length gl
 length_all_taken s gl [] = refl
 length_all_taken s gl (w ∷ words) = length_all_taken s (taken s gl w) words ∙ length_taken s gl w
 

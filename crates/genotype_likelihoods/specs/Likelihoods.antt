@@ -1,8 +1,8 @@
 -- 01, Scoring: "Likelihoods .. follow the Rust": calc_ref_vs_any_log10_genotype_likelihoods, with n entries.
 use Rattle.std.specs.Prelude.{ℕ, ◌+◌, Bool, cond, List, replicate, pos, Float}
+use Rattle.std.specs.List.{fold}
 use Rattle.std.specs.Float.{binary64}
 use Rattle.std.specs.Float.Ieee.{of_int, add, sub, mul}
-use Rattle.lists.specs.Loops.{foldl}
 use Rattle.lists.specs.Each.{each}
 use Rattle.doubles.specs.Constants.{zero_f, one_f}
 use Rattle.genotype_likelihoods.specs.declared.HaplotypeCallerActivityScoringParams.{HaplotypeCallerActivityScoringParams}
@@ -34,5 +34,5 @@ less d i x = sub binary64 x d
 -- every word in turn; then each entry less the words counted × log10 ploidy
 unfoldable pub likelihoods : HaplotypeCallerActivityScoringParams → ℕ → List ℕ → List Float
 likelihoods s n words =
-    each (less (mul binary64 (of_int binary64 (pos (foldl (counted s) 0 words))) (log10_whole s.sample_ploidy.0)))
-    (foldl (taken s) (replicate n zero_f) words)
+    each (less (mul binary64 (of_int binary64 (pos (fold (counted s) 0 words))) (log10_whole s.sample_ploidy.0)))
+    (fold (taken s) (replicate n zero_f) words)

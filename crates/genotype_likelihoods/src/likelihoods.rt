@@ -1,7 +1,7 @@
 // The likelihoods of every genotype over a whole pile.
 ghost use Rattle.std.specs.Prelude.{◌≡◌, ◌<◌, cond, length, replicate};
+ghost use Rattle.std.specs.List.{fold};
 ghost use Rattle.lists.specs.Each.{each};
-ghost use Rattle.lists.specs.Loops.{foldl};
 ghost use Rattle.doubles.specs.Constants.{zero_f, one_f};
 ghost use Rattle.genotype_likelihoods.specs.Likelihoods.{gained, less, counted, taken, likelihoods};
 
@@ -39,8 +39,8 @@ fn clear(gl: &mut [f64])
 
 // Adds each word in turn. Answers how many were not skipped.
 fn take_words(gl: &mut [f64], pile: &[u32], params: HaplotypeCallerActivityScoringParams) -> u64
-    ensures value { result ≡ foldl (counted params) 0 pile.now }
-    ensures gl_after { gl.new ≡ foldl (taken params) gl.old pile.now }
+    ensures value { result ≡ fold (counted params) 0 pile.now }
+    ensures gl_after { gl.new ≡ fold (taken params) gl.old pile.now }
 {
     let mut n = 0;
     let mut i = 0;

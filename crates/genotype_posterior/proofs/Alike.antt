@@ -1,8 +1,9 @@
 -- Likelihoods of 0.0 alone: rounded they are alike, none of them is above the first, and the first zero exit is taken. Assumes nothing.
 use Rattle.std.specs.Prelude.{◌≡◌, ℕ, zero, suc, ◌-◌, false, length, replicate, slice_index_or, refl, Float}
+use Rattle.std.specs.List.{fold}
 use Rattle.std.specs.Float.{nan}
 use Rattle.std.specs.Float.Ieee.{of_bits, of_int, round, to_unsigned, add, sub, mul, div, neg, lt, ne}
-use Rattle.lists.specs.Loops.{foldl, along}
+use Rattle.lists.specs.Loops.{along}
 use Rattle.lists.specs.Folds.{each_alike}
 use Rattle.doubles.specs.Constants.{zero_f}
 use Rattle.log10_sums.specs.Sums.{larger, max_element_index}
@@ -10,13 +11,13 @@ use Rattle.genotype_posterior.specs.Phred.{max_f, min_f, pl_of, adjust, round_tr
 use Rattle.genotype_posterior.specs.Posterior.{posterior}
 use Rattle.genotype_posterior.specs.Alike.{minus_zero}
 
-largest : (n : ℕ) → foldl max_f zero_f (replicate n zero_f) ≡ zero_f
-unfolding foldl max_f lt ne of_bits
+largest : (n : ℕ) → fold max_f zero_f (replicate n zero_f) ≡ zero_f
+unfolding max_f lt ne of_bits
 largest zero = refl
 largest (suc n) = largest n
 
 adjusted : (n : ℕ) → adjust (replicate (suc n) zero_f) ≡ zero_f
-unfolding foldl max_f lt ne of_bits
+unfolding max_f lt ne of_bits
 adjusted n = largest n
 
 rounded : (k : ℕ) → round_trip zero_f k zero_f ≡ minus_zero

@@ -1,8 +1,8 @@
 -- The value that is rounded to a PL is never below 0, whatever the likelihoods are: so its whole part is its floor. Assumes nothing.
 use Rattle.std.proofs.Common.{◌≡◌, ℕ, zero, suc, ◌*◌, ◌<◌, Bool, true, false, cond, not, ◌&&◌, ◌||◌, eqb, List, [], ◌∷◌, length, get_or, pos, sym, refl, ap, subst, le_of_suc-le-suc, not-suc-le-zero, eq-eqb}
+use Rattle.std.specs.List.{fold}
 use mathlib.Core.Bool.{beq, false≢true}
 use lib.Ieee.{Float, nan, inf, fin, binary64, up, down, add, sub, neg, lt, eq, ne, of_bits}
-use Rattle.lists.specs.Loops.{foldl}
 use Rattle.lists.specs.Tests.{beq_refl}
 use Rattle.doubles.specs.Constants.{zero_f}
 use Rattle.double_ranges.specs.Order.{AtMost, Number, at_most_trans, at_most_refl, at_most_of_lt, at_most_of_not_lt}
@@ -42,15 +42,13 @@ max_is t x p = subst (λ (b : Bool). Top t x (cond (b || lt t x) x t)) (sym (not
     go true f g h = record { number = g refl; before = f refl; this = λ n. at_most_refl x n }
     go false f g h = record { number = p; before = at_most_refl t p; this = λ n. h n refl }
 
-largest : (xs : List Float) (t : Float) → Number t → AtMost t (foldl max_f t xs)
-unfolding foldl
+largest : (xs : List Float) (t : Float) → Number t → AtMost t (fold max_f t xs)
 largest [] t p = at_most_refl t p
-largest (x ∷ xs) t p = let m = max_is t x p in at_most_trans t (max_f t x) (foldl max_f (max_f t x) xs) m.before (largest xs (max_f t x) m.number)
+largest (x ∷ xs) t p = let m = max_is t x p in at_most_trans t (max_f t x) (fold max_f (max_f t x) xs) m.before (largest xs (max_f t x) m.number)
 
-each-at_most : (xs : List Float) (t : Float) → Number t → (i : ℕ) → i < length xs → Number (get_or xs i nan) → AtMost (get_or xs i nan) (foldl max_f t xs)
-unfolding foldl
+each-at_most : (xs : List Float) (t : Float) → Number t → (i : ℕ) → i < length xs → Number (get_or xs i nan) → AtMost (get_or xs i nan) (fold max_f t xs)
 each-at_most [] t p i h n = absurd (not-suc-le-zero h)
-each-at_most (x ∷ xs) t p zero h n = let m = max_is t x p in at_most_trans x (max_f t x) (foldl max_f (max_f t x) xs) (m.this n) (largest xs (max_f t x) m.number)
+each-at_most (x ∷ xs) t p zero h n = let m = max_is t x p in at_most_trans x (max_f t x) (fold max_f (max_f t x) xs) (m.this n) (largest xs (max_f t x) m.number)
 each-at_most (x ∷ xs) t p (suc i) h n = each-at_most xs (max_f t x) (max_is t x p).number i (le_of_suc-le-suc h) n
 
 less-down : (g top : Float) → (Number g → AtMost g top) → Down (sub binary64 g top)

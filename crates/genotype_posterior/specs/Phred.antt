@@ -1,9 +1,9 @@
 -- 01, Scoring: "PL rounding (floor of value + 0.5, capped at 2,147,483,647)"; the rest is the Rust's
 -- genotype_log10_likelihoods_after_java_genotype_pl_roundtrip.
 use Rattle.std.specs.Prelude.{ℕ, true, cond, ◌||◌, List, pos, from_bits, Float}
+use Rattle.std.specs.List.{fold}
 use Rattle.std.specs.Float.{binary64, inf}
 use Rattle.std.specs.Float.Ieee.{of_int, to_unsigned, add, sub, mul, div, neg, lt, ne}
-use Rattle.lists.specs.Loops.{foldl}
 use Rattle.lists.specs.Each.{each}
 use Rattle.doubles.specs.Constants.{half_f, ten_f}
 
@@ -20,7 +20,7 @@ cap = from_bits binary64 0x41df_ffff_ffc0_0000
 
 -- the largest, from minus infinity on
 abbrev pub adjust : List Float → Float
-adjust gl = foldl max_f (inf true) gl
+adjust gl = fold max_f (inf true) gl
 
 -- the value capped, plus 0.5, without its fraction: from 0 to 2147483647. A value is never below 0 (`scaled_not_below`), so that is its floor
 unfoldable pub pl_of : Float → ℕ

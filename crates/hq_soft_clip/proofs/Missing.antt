@@ -1,8 +1,8 @@
 -- 02, U3: in the soft-clip count a missing quality counts as one of 0 does. Assumes nothing.
 use Rattle.std.specs.Prelude.{◌≡◌, refl, Bool, true, false, cond, ◌&&◌, List, [], ◌∷◌, map, ℕ, zero, suc, ◌+◌, eqb, ltb, take, drop}
+use Rattle.std.specs.List.{fold}
 use Rattle.std.proofs.Common.{ap, ◌∙◌}
-use Rattle.lists.specs.Loops.{foldl}
-use Rattle.lists.specs.Folds.{foldl-same}
+use Rattle.lists.specs.Folds.{fold-same}
 use Rattle.genome.specs.Ranges.{missing_quality}
 use Rattle.genome.specs.Refusals.{Outcome, refused, answered}
 use Rattle.hq_soft_clip.specs.declared.Walk.{Walk}
@@ -21,15 +21,14 @@ high_zeroed q = go (eqb q missing_quality) refl
     go true e = rw e (and_false (ltb 28 q))
     go false e = refl
 
-count_zeroed : (n : ℕ) (qs : List ℕ) → foldl with_base n (map zeroed qs) ≡ foldl with_base n qs
-unfolding foldl
+count_zeroed : (n : ℕ) (qs : List ℕ) → fold with_base n (map zeroed qs) ≡ fold with_base n qs
 count_zeroed n [] = refl
-count_zeroed n (q ∷ qs) = ap (λ (b : Bool). foldl with_base (cond b (n + 1) n) (map zeroed qs)) (high_zeroed q) ∙ count_zeroed (with_base n q) qs
+count_zeroed n (q ∷ qs) = ap (λ (b : Bool). fold with_base (cond b (n + 1) n) (map zeroed qs)) (high_zeroed q) ∙ count_zeroed (with_base n q) qs
 
 -- of n bases from base `at` on
 high_of-zeroed : (qs : List ℕ) (at n : ℕ) → high_of (map zeroed qs) at n ≡ high_of qs at n
 unfolding count_high
-high_of-zeroed qs at n = ap (foldl with_base 0) (part qs at n) ∙ count_zeroed 0 (take n (drop at qs))
+high_of-zeroed qs at n = ap (fold with_base 0) (part qs at n) ∙ count_zeroed 0 (take n (drop at qs))
   where
     part : (qs : List ℕ) (at n : ℕ) → take n (drop at (map zeroed qs)) ≡ map zeroed (take n (drop at qs))
     part [] zero zero = refl
@@ -48,4 +47,4 @@ after-zeroed qs (answered s) w =
 -- for every list of CIGAR words and of qualities, refused or not
 pub clips_zeroed : (cigar qualities : List ℕ) → clip_count cigar (map zeroed qualities) ≡ clip_count cigar qualities
 unfolding clip_count
-clips_zeroed cigar qs = ap count_of (foldl-same (after (map zeroed qs)) (after qs) (answered start) cigar (after-zeroed qs))
+clips_zeroed cigar qs = ap count_of (fold-same (after (map zeroed qs)) (after qs) (answered start) cigar (after-zeroed qs))

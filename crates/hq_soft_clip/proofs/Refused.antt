@@ -1,8 +1,8 @@
 -- 01, Soft-clip count: "Operations 9 to 15 are refused 3, also with no qualities", and nothing else is refused. Assumes nothing.
 use Rattle.std.specs.Prelude.{◌≡◌, refl, false, List, [], ◌∷◌, ℕ, zero, suc, ◌≤◌, ◌<◌, eqb, length, get_or}
+use Rattle.std.specs.List.{fold}
 use Prim.{⊥, absurd}
 use Rattle.std.proofs.Common.{not-suc-le-zero, le_of_suc-le-suc, zero-lt-suc, arith, ne_eqb}
-use Rattle.lists.specs.Loops.{foldl}
 use Rattle.genome.specs.Refusals.{Outcome, refused, answered, word_refusal}
 use Rattle.hq_soft_clip.specs.declared.Walk.{Walk}
 use Rattle.hq_soft_clip.proofs.Operations.{by_arms}
@@ -19,8 +19,7 @@ past_table op n qs s h =
     ne k l = let no : op ≡ k → ⊥ = λ e. omega arith in ne_eqb op k no
 
 -- a refused walk stays refused
-pub refused_count : (qs ws : List ℕ) (r : ℕ) → count_of (foldl (after qs) (refused r) ws) ≡ refused r
-unfolding foldl
+pub refused_count : (qs ws : List ℕ) (r : ℕ) → count_of (fold (after qs) (refused r) ws) ≡ refused r
 refused_count qs [] r = refl
 refused_count qs (w ∷ ws) r = refused_count qs ws r
 
@@ -37,8 +36,7 @@ after_unknown : (qs : List ℕ) (o : Outcome Walk) (w : ℕ) → Or3 o → 8 < o
 after_unknown qs (refused r) w h u = rw h
 after_unknown qs (answered s) w h u = past_table (operation w) (span w) qs s u
 
-from_any : (qs ws : List ℕ) (o : Outcome Walk) (i : ℕ) → Or3 o → i < length ws → 8 < operation (get_or ws i 0) → count_of (foldl (after qs) o ws) ≡ refused word_refusal
-unfolding foldl
+from_any : (qs ws : List ℕ) (o : Outcome Walk) (i : ℕ) → Or3 o → i < length ws → 8 < operation (get_or ws i 0) → count_of (fold (after qs) o ws) ≡ refused word_refusal
 from_any qs [] o i h l u = absurd (not-suc-le-zero l)
 from_any qs (w ∷ ws) o zero h l u = rw (after_unknown qs o w h u) (refused_count qs ws word_refusal)
 from_any qs (w ∷ ws) o (suc i) h l u = from_any qs ws (after qs o w) i (after_or3 qs o w h) (le_of_suc-le-suc l) u
@@ -69,8 +67,7 @@ count_known : (o : Outcome Walk) → Counted o → Counted (count_of o)
 count_known (refused r) h = h
 count_known (answered s) h = tt
 
-from_known : (qs ws : List ℕ) (o : Outcome Walk) → Counted o → ((i : ℕ) → i < length ws → operation (get_or ws i 0) ≤ 8) → Counted (count_of (foldl (after qs) o ws))
-unfolding foldl
+from_known : (qs ws : List ℕ) (o : Outcome Walk) → Counted o → ((i : ℕ) → i < length ws → operation (get_or ws i 0) ≤ 8) → Counted (count_of (fold (after qs) o ws))
 from_known qs [] o h known = count_known o h
 from_known qs (w ∷ ws) o h known =
     from_known qs ws (after qs o w) (after_known qs o w h (known 0 (zero-lt-suc (length ws)))) (λ i l. known (suc i) (omega (arith, l)))

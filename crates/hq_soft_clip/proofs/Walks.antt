@@ -1,5 +1,6 @@
 -- Laws of the walk along a read: it may stop where the qualities end, and counts no more bases than it has passed. Assumes nothing.
 use mathlib.Core.Path.{◌≡◌, refl, sym, ap, ◌∙◌}
+use Rattle.std.specs.List.{fold}
 use mathlib.Core.Bool.{Bool, true, false, cond}
 use mathlib.Core.List.{List, [], ◌∷◌}
 use Prim.Native.Nat.{ℕ, suc, ◌+◌, ◌-◌, ◌≤◌, ◌<◌, min}
@@ -7,7 +8,7 @@ use native.Mathlib.Nat.{le_refl}
 use native.Mathlib.Omega.{arith}
 use lib.ListN.{length, get_or, take, drop, length-take, length-drop, drop_of_length-le}
 use lib.Seq.{take_all}
-use Rattle.lists.specs.Loops.{foldl, foldl-turn}
+use Rattle.lists.specs.Loops.{fold-turn}
 use Rattle.lists.specs.Window.{lt_or_le}
 use mathlib.Core.Logic.{⊎_elim}
 use Rattle.genome.specs.Refusals.{Outcome, refused, answered}
@@ -16,12 +17,11 @@ use Rattle.hq_soft_clip.proofs.Operations.{by_arms}
 use Rattle.hq_soft_clip.specs.SoftClips.{operation, span, is_high, with_base, count_high, high_of, clipped, walked, after, count_of, capped, capped_outcome}
 
 -- ---- a count of high qualities is no longer than the list
-count_le : (qs : List ℕ) (n : ℕ) → foldl with_base n qs ≤ n + length qs
-unfolding foldl
+count_le : (qs : List ℕ) (n : ℕ) → fold with_base n qs ≤ n + length qs
 count_le [] n = omega arith
 count_le (q ∷ qs) n = go (is_high q) (count_le qs (with_base n q))
   where
-    go : (b : Bool) → foldl with_base (cond b (n + 1) n) qs ≤ cond b (n + 1) n + length qs → foldl with_base (cond b (n + 1) n) qs ≤ n + suc (length qs)
+    go : (b : Bool) → fold with_base (cond b (n + 1) n) qs ≤ cond b (n + 1) n + length qs → fold with_base (cond b (n + 1) n) qs ≤ n + suc (length qs)
     go true k = omega arith
     go false k = omega arith
 
@@ -77,22 +77,21 @@ capped_has_count n (refused r) = refl
 capped_has_count n (answered s) = refl
 
 all_capped : (qs ws : List ℕ) (o p : Outcome Walk) → capped_outcome (length qs) o ≡ capped_outcome (length qs) p
-    → count_of (foldl (after qs) o ws) ≡ count_of (foldl (after qs) p ws)
-unfolding foldl
+    → count_of (fold (after qs) o ws) ≡ count_of (fold (after qs) p ws)
 all_capped qs [] o p e = sym (capped_has_count (length qs) o) ∙ ap count_of e ∙ capped_has_count (length qs) p
 all_capped qs (w ∷ ws) o p e =
     all_capped qs ws (after qs o w) (after qs p w)
     (sym (same-capped qs o w) ∙ ap (λ (x : Outcome Walk). capped_outcome (length qs) (after qs x w)) e ∙ same-capped qs p w)
 
-pub capped_count : (qs ws : List ℕ) (o : Outcome Walk) → count_of (foldl (after qs) (capped_outcome (length qs) o) ws) ≡ count_of (foldl (after qs) o ws)
+pub capped_count : (qs ws : List ℕ) (o : Outcome Walk) → count_of (fold (after qs) (capped_outcome (length qs) o) ws) ≡ count_of (fold (after qs) o ws)
 capped_count qs ws o = all_capped qs ws (capped_outcome (length qs) o) o (capped_twice (length qs) o)
 
 -- the word at i, and then the rest
 pub turn : (qs cigar : List ℕ) (s : Walk) (i : ℕ) (o : Outcome Walk) → i < length cigar → o ≡ capped_outcome (length qs) (walked qs s (get_or cigar i 0))
-    → count_of (foldl (after qs) o (drop (i + 1) cigar)) ≡ count_of (foldl (after qs) (answered s) (drop i cigar))
+    → count_of (fold (after qs) o (drop (i + 1) cigar)) ≡ count_of (fold (after qs) (answered s) (drop i cigar))
 turn qs cigar s i o h e =
     rw e
-    (capped_count qs (drop (i + 1) cigar) (walked qs s (get_or cigar i 0)) ∙ ap count_of (foldl-turn (after qs) (answered s) cigar i 0 h))
+    (capped_count qs (drop (i + 1) cigar) (walked qs s (get_or cigar i 0)) ∙ ap count_of (fold-turn (after qs) (answered s) cigar i 0 h))
 
 -- ---- it counts no more bases than it has passed, and passes no more than there are qualities
 abbrev pub Within : ℕ → Outcome Walk → Type 0

@@ -1,6 +1,6 @@
 -- 01, Soft-clip count, and 02, U3 and U4; with the SAM specification's CIGAR operations: 0 to 8 are M I D N S H P = X.
 use Rattle.std.specs.Prelude.{Bool, cond, not, ◌&&◌, List, ℕ, ◌+◌, ◌/◌, ◌%◌, min, eqb, ltb, take, drop}
-use Rattle.lists.specs.Loops.{foldl}
+use Rattle.std.specs.List.{fold}
 use Rattle.genome.specs.Ranges.{missing_quality}
 use Rattle.genome.specs.Refusals.{Outcome, refused, answered, number_of, word_refusal}
 use Rattle.hq_soft_clip.specs.declared.Walk.{Walk}
@@ -26,7 +26,7 @@ with_base n q = cond (is_high q) (n + 1) n
 
 -- the bases of high quality in a list of qualities
 unfoldable pub count_high : List ℕ → ℕ
-count_high qs = foldl with_base 0 qs
+count_high qs = fold with_base 0 qs
 
 -- those among the n bases that begin at base `at`; "a missing quality counts as 0"
 abbrev pub high_of : List ℕ → ℕ → ℕ → ℕ
@@ -83,7 +83,7 @@ count_of (answered s) = answered s.count
 
 -- the number of a refusal, or the count
 unfoldable pub clip_count : List ℕ → List ℕ → Outcome ℕ
-clip_count cigar qualities = count_of (foldl (after qualities) (answered start) cigar)
+clip_count cigar qualities = count_of (fold (after qualities) (answered start) cigar)
 
 -- answers of the code in these terms
 abbrev pub clip_count_of : SoftClips → Outcome ℕ

@@ -1,6 +1,7 @@
 -- Loops as definitions, each with the law of one turn and the law of the end.
 -- Assumes nothing.
 use Rattle.std.specs.Prelude.{◌≡◌, Bool, get_or, drop}
+use Rattle.std.specs.List.{fold}
 use Rattle.std.proofs.Math.Path.{refl}
 use Rattle.std.proofs.Common.{◌∙◌, not-suc-le-zero, le_of_suc-le-suc, drop_of_length-le}
 use Rattle.std.proofs.Math.Bool.{true, false, cond}
@@ -74,23 +75,17 @@ module _ {S : Type 0} where
   unfolding along
   along_end f i n s h = let e : n - i ≡ 0 = omega arith in rw e
 
-  -- left to right over a list
+  -- left to right over a list: `fold` of std
   module _ {A : Type 0} where
-    unfoldable pub foldl : (S → A → S) → S → List A → S
-    foldl f s [] = s
-    foldl f s (x ∷ l) = foldl f (f s x) l
-
     -- one turn of a loop that reads l[i]: what is left is drop i l
-    pub foldl-turn : (f : S → A → S) (s : S) (l : List A) (i : ℕ) (d : A) → i < length l → foldl f (f s (get_or l i d)) (drop (i + 1) l) ≡ foldl f s (drop i l)
-    unfolding foldl
-    foldl-turn f s l i d h = rw (add-one, drop-cons l i d h)
+    pub fold-turn : (f : S → A → S) (s : S) (l : List A) (i : ℕ) (d : A) → i < length l → fold f (f s (get_or l i d)) (drop (i + 1) l) ≡ fold f s (drop i l)
+    fold-turn f s l i d h = rw (add-one, drop-cons l i d h)
 
-    pub foldl_end : (f : S → A → S) (s : S) (l : List A) (i : ℕ) → length l ≤ i → foldl f s (drop i l) ≡ s
-    unfolding foldl
-    foldl_end f s [] zero h = refl
-    foldl_end f s [] (suc i) h = refl
-    foldl_end f s (x ∷ l) zero h = absurd (not-suc-le-zero h)
-    foldl_end f s (x ∷ l) (suc i) h = foldl_end f s l i (le_of_suc-le-suc h)
+    pub fold_end : (f : S → A → S) (s : S) (l : List A) (i : ℕ) → length l ≤ i → fold f s (drop i l) ≡ s
+    fold_end f s [] zero h = refl
+    fold_end f s [] (suc i) h = refl
+    fold_end f s (x ∷ l) zero h = absurd (not-suc-le-zero h)
+    fold_end f s (x ∷ l) (suc i) h = fold_end f s l i (le_of_suc-le-suc h)
 
 module _ {A : Type 0} where
   -- the index of the first element that passes the test, or the length

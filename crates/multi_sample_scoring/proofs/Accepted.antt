@@ -1,9 +1,9 @@
 -- What an accepted set tells: each of its piles is accepted alone, and where several are left its probability is made of theirs. Assumes nothing.
 use Rattle.std.specs.Prelude.{◌≡◌, refl, Bool, true, false, cond, not, ◌||◌, List, [], ◌∷◌, map, ℕ, zero, suc, ◌+◌, ◌≤◌, ◌<◌, ltb, eqb, length, get_or, drop, Float}
+use Rattle.std.specs.List.{fold}
 use Rattle.std.proofs.Common.{sym, ap, ◌∙◌, true≢false, not-suc-le-zero, arith, eqb-true, ltb-false, length-drop, length-take-le, get_or-take, get_or-drop}
 use Rattle.std.specs.Float.{binary64}
 use Rattle.std.specs.Float.Ieee.{sub}
-use Rattle.lists.specs.Loops.{foldl}
 use Rattle.lists.specs.Tests.{not_false, or_left, or_right}
 use Rattle.lists.specs.Without.{without, and_also, none_passes, all_pass}
 use Rattle.doubles.specs.Constants.{zero_f, one_f}
@@ -50,23 +50,20 @@ accepted_is p words lengths s x r h =
 
 -- ---- each pile alone
 
-begun : (b : Bool) (lengths : List ℕ) → foldl or_too_deep b lengths ≡ false → b ≡ false
-unfolding foldl
+begun : (b : Bool) (lengths : List ℕ) → fold or_too_deep b lengths ≡ false → b ≡ false
 begun b [] h = h
 begun b (n ∷ lengths) h = or_left b (ltb max_depth n) (begun (b || ltb max_depth n) lengths h)
 
-shallow_at : (b : Bool) (lengths : List ℕ) (i : ℕ) → foldl or_too_deep b lengths ≡ false → i < length lengths → ltb max_depth (get_or lengths i 0) ≡ false
-unfolding foldl
+shallow_at : (b : Bool) (lengths : List ℕ) (i : ℕ) → fold or_too_deep b lengths ≡ false → i < length lengths → ltb max_depth (get_or lengths i 0) ≡ false
 shallow_at b [] i h k = absurd (not-suc-le-zero k)
 shallow_at b (n ∷ lengths) zero h k = or_right b (ltb max_depth n) (begun (b || ltb max_depth n) lengths h)
 shallow_at b (n ∷ lengths) (suc i) h k = shallow_at (b || ltb max_depth n) lengths i h (omega arith)
 
-passes_at : (q : ℕ → Bool) (l : List ℕ) (i : ℕ) → foldl (and_also q) true l ≡ true → i < length l → q (get_or l i 0) ≡ true
-unfolding foldl
+passes_at : (q : ℕ → Bool) (l : List ℕ) (i : ℕ) → fold (and_also q) true l ≡ true → i < length l → q (get_or l i 0) ≡ true
 passes_at q [] i h k = absurd (not-suc-le-zero k)
 passes_at q (x ∷ l) i h k = go (q x) refl h i k (λ e j m. passes_at q l j e m)
   where
-    go : (b : Bool) → q x ≡ b → foldl (and_also q) b l ≡ true → (i : ℕ) → i < suc (length l) → (foldl (and_also q) true l ≡ true → (j : ℕ) → j < length l → q (get_or l j 0) ≡ true) → q (get_or (x ∷ l) i 0) ≡ true
+    go : (b : Bool) → q x ≡ b → fold (and_also q) b l ≡ true → (i : ℕ) → i < suc (length l) → (fold (and_also q) true l ≡ true → (j : ℕ) → j < length l → q (get_or l j 0) ≡ true) → q (get_or (x ∷ l) i 0) ≡ true
     go true f e zero k rest = f
     go true f e (suc i) k rest = rest e i (omega arith)
     go false f e i k rest = absurd (true≢false (sym e ∙ none_passes q l))
@@ -92,17 +89,17 @@ unfolding state_with activity_of
 alone_is contig p s pile e = ap (λ (b : Bool). (cond b (empty_pile contig p) (state contig p (activity_of pile s) (evidence_of (mean_of s pile)))).active_prob) (sym e)
 
 by_scores : (contig : ℕ) (p : GenomePosition) (s : HaplotypeCallerActivityScoringParams) (q : Float) (ps : List (List ℕ))
-    → foldl (with_sample (from_rounded s)) q (map (λ (pile : List ℕ). rounded_of pile s) (without is_empty ps)) ≡ foldl with_probability q (map (alone contig p s) (without is_empty ps))
-unfolding foldl without
+    → fold (with_sample (from_rounded s)) q (map (λ (pile : List ℕ). rounded_of pile s) (without is_empty ps)) ≡ fold with_probability q (map (alone contig p s) (without is_empty ps))
+unfolding without
 by_scores contig p s q [] = refl
 by_scores contig p s q (pile ∷ ps) = go (is_empty pile) refl (λ r. by_scores contig p s r ps)
   where
-    go : (b : Bool) → is_empty pile ≡ b → ((r : Float) → foldl (with_sample (from_rounded s)) r (map (λ (pile : List ℕ). rounded_of pile s) (without is_empty ps)) ≡ foldl with_probability r (map (alone contig p s) (without is_empty ps)))
-        → foldl (with_sample (from_rounded s)) q (map (λ (pile : List ℕ). rounded_of pile s) (cond b (without is_empty ps) (pile ∷ without is_empty ps)))
-        ≡ foldl with_probability q (map (alone contig p s) (cond b (without is_empty ps) (pile ∷ without is_empty ps)))
+    go : (b : Bool) → is_empty pile ≡ b → ((r : Float) → fold (with_sample (from_rounded s)) r (map (λ (pile : List ℕ). rounded_of pile s) (without is_empty ps)) ≡ fold with_probability r (map (alone contig p s) (without is_empty ps)))
+        → fold (with_sample (from_rounded s)) q (map (λ (pile : List ℕ). rounded_of pile s) (cond b (without is_empty ps) (pile ∷ without is_empty ps)))
+        ≡ fold with_probability q (map (alone contig p s) (cond b (without is_empty ps) (pile ∷ without is_empty ps)))
     go true e rest = rest q
     go false e rest =
-        rest (with_sample (from_rounded s) q (rounded_of pile s)) ∙ ap (λ (x : Float). foldl with_probability (with_probability q x) (map (alone contig p s) (without is_empty ps))) (alone_is contig p s pile e)
+        rest (with_sample (from_rounded s) q (rounded_of pile s)) ∙ ap (λ (x : Float). fold with_probability (with_probability q x) (map (alone contig p s) (without is_empty ps))) (alone_is contig p s pile e)
 
 -- Where several piles are left, the probability is made of just the likelihoods of which `Member` speaks.
 pub several_left : (contig : ℕ) (p : GenomePosition) (words lengths : List ℕ) (s : HaplotypeCallerActivityScoringParams) → total lengths ≡ length words → 2 ≤ count_left lengths
@@ -116,7 +113,7 @@ several_left contig p words lengths s e h =
 -- Where several piles are left: 1 less the product, in the order of the piles, of 1 less what each scores alone; original 0.0; the evidence of the run's mean.
 pub set_of_scores : (contig : ℕ) (p : GenomePosition) (words lengths : List ℕ) (s : HaplotypeCallerActivityScoringParams) (r : ActivityProfileState)
     → set_score_of contig p words lengths s ≡ answered r → 2 ≤ count_left lengths
-    → r ≡ state contig p (record { probability = sub binary64 one_f (foldl with_probability one_f (map (alone contig p s) (piles_left words lengths))); original = zero_f }) (evidence_of (mean_of s words))
+    → r ≡ state contig p (record { probability = sub binary64 one_f (fold with_probability one_f (map (alone contig p s) (piles_left words lengths))); original = zero_f }) (evidence_of (mean_of s words))
 unfolding any_non_ref
 set_of_scores contig p words lengths s r e h =
     let a = accepted_is p words lengths s (set_state_of contig p words lengths s) r e in

@@ -1,8 +1,8 @@
 -- Each member's skipped words and likelihoods are those that it has alone: the proof of specs/Members.antt. Assumes nothing.
 use Rattle.std.specs.Prelude.{◌≡◌, refl, Bool, true, false, cond, List, [], ◌∷◌, map, ℕ, zero, suc, ◌+◌, ◌≤◌, ◌<◌, eqb, length, get_or, take, drop, Float}
+use Rattle.std.specs.List.{fold}
 use Rattle.std.proofs.Common.{ap, ◌∙◌, not-suc-le-zero, arith, ne_eqb, length-drop, length-take-le, drop-drop}
-use Rattle.lists.specs.Loops.{foldl}
-use Rattle.lists.specs.Without.{without, foldl-without}
+use Rattle.lists.specs.Without.{without, fold-without}
 use Rattle.genotype_likelihoods.specs.declared.HaplotypeCallerActivityScoringParams.{HaplotypeCallerActivityScoringParams}
 use Rattle.genotype_likelihoods.specs.Observation.{skipped}
 use Rattle.genotype_likelihoods.proofs.Skipped.{likelihoods-without}
@@ -38,18 +38,17 @@ module _ {A B : Type 0} (f : A → B) where
   map-drop (suc n) (x ∷ l) = map-drop n l
 
 -- how many lengths are not 0, one length more
-pub count_more : (k : ℕ) (lengths : List ℕ) → foldl with_length k lengths ≡ k + count_left lengths
-unfolding foldl
+pub count_more : (k : ℕ) (lengths : List ℕ) → fold with_length k lengths ≡ k + count_left lengths
 count_more k [] = omega arith
 count_more k (n ∷ lengths) = go (eqb n 0) (λ j. count_more j lengths)
   where
-    go : (b : Bool) → ((j : ℕ) → foldl with_length j lengths ≡ j + count_left lengths) → foldl with_length (cond b k (k + 1)) lengths ≡ k + foldl with_length (cond b 0 (0 + 1)) lengths
+    go : (b : Bool) → ((j : ℕ) → fold with_length j lengths ≡ j + count_left lengths) → fold with_length (cond b k (k + 1)) lengths ≡ k + fold with_length (cond b 0 (0 + 1)) lengths
     go true rest = rest k
     go false rest = omega (arith, rest (k + 1), rest 1)
 
 likelihoods-at : (s : HaplotypeCallerActivityScoringParams) (words lengths : List ℕ) (i : ℕ) → total lengths ≤ length words → i < length lengths → 0 < get_or lengths i 0
     → get_or (likelihoods_of s (piles_left words lengths)) (count_left (take i lengths)) [] ≡ rounded_of (get_or (piles words lengths) i []) s
-unfolding piles total without foldl
+unfolding piles total without
 likelihoods-at s words [] i few h some = absurd (not-suc-le-zero h)
 likelihoods-at s words (n ∷ lengths) zero few h some =
     rw (length-take-le n words (omega arith), ne_eqb n 0 (λ e. absurd (omega (arith, e))))
@@ -57,11 +56,11 @@ likelihoods-at s words (n ∷ lengths) (suc i) few h some =
     rw (length-take-le n words (omega arith)) (go (eqb n 0) (likelihoods-at s (drop n words) lengths i (omega (arith, length-drop n words)) (omega arith) some))
   where
     go : (b : Bool) → get_or (likelihoods_of s (piles_left (drop n words) lengths)) (count_left (take i lengths)) [] ≡ rounded_of (get_or (piles (drop n words) lengths) i []) s
-        → get_or (likelihoods_of s (cond b (piles_left (drop n words) lengths) (take n words ∷ piles_left (drop n words) lengths))) (foldl with_length (cond b 0 (0 + 1)) (take i lengths)) []
+        → get_or (likelihoods_of s (cond b (piles_left (drop n words) lengths) (take n words ∷ piles_left (drop n words) lengths))) (fold with_length (cond b 0 (0 + 1)) (take i lengths)) []
         ≡ rounded_of (get_or (piles (drop n words) lengths) i []) s
     go true e = e
     go false e =
-        let next : foldl with_length (0 + 1) (take i lengths) ≡ suc (count_left (take i lengths)) = omega (arith, count_more (0 + 1) (take i lengths)) in
+        let next : fold with_length (0 + 1) (take i lengths) ≡ suc (count_left (take i lengths)) = omega (arith, count_more (0 + 1) (take i lengths)) in
         rw next e
 
 -- every member of every set whose lengths add up to its run
@@ -79,11 +78,11 @@ pub likelihoods_of-counted : (s : HaplotypeCallerActivityScoringParams) (ps : Li
 likelihoods_of-counted s [] = refl
 likelihoods_of-counted s (pile ∷ ps) = rw (likelihoods-without s (s.sample_ploidy.0 + 1) pile) (ap (λ (l : List (List Float)). rounded_of pile s ∷ l) (likelihoods_of-counted s ps))
 
-counted-from : (s : HaplotypeCallerActivityScoringParams) (r : RunningMean) (ps : List (List ℕ)) → foldl (with_words s) r (map (without (skipped s)) ps) ≡ foldl (with_words s) r ps
-unfolding foldl with_word
+counted-from : (s : HaplotypeCallerActivityScoringParams) (r : RunningMean) (ps : List (List ℕ)) → fold (with_words s) r (map (without (skipped s)) ps) ≡ fold (with_words s) r ps
+unfolding with_word
 counted-from s r [] = refl
 counted-from s r (pile ∷ ps) =
-    ap (λ (q : RunningMean). foldl (with_words s) q (map (without (skipped s)) ps)) (foldl-without (skipped s) (with_word s) r pile (λ q w e. rw e))
+    ap (λ (q : RunningMean). fold (with_words s) q (map (without (skipped s)) ps)) (fold-without (skipped s) (with_word s) r pile (λ q w e. rw e))
     ∙ counted-from s (with_words s r pile) ps
 
 pub mean_of-counted : (s : HaplotypeCallerActivityScoringParams) (ps : List (List ℕ)) → stratified_mean s (map (without (skipped s)) ps) ≡ stratified_mean s ps

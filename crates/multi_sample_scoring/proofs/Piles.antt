@@ -1,12 +1,12 @@
 -- The piles of a set, put one behind the other, are its run; so the clip mean of the set is that of the run, and a set with one pile left is that pile.
 -- Assumes nothing.
 use Rattle.std.specs.Prelude.{◌≡◌, Bool, true, false, ℕ, ◌+◌, ◌≤◌, eqb, length, take, drop, Float}
+use Rattle.std.specs.List.{fold}
 use Rattle.std.proofs.Math.Path.{refl, ap}
 use Rattle.std.proofs.Common.{sym, ◌∙◌, add-zero, zero-add, arith, eqb-true, length-drop, take-append-drop, length-take-le}
 use Rattle.std.proofs.Math.Bool.{cond}
 use mathlib.Core.List.{List, [], ◌∷◌, ◌++◌, map, flatten, append-nil, nil≢cons, head-eq_of_cons-eq}
 use Rattle.std.specs.Float.Ieee.{lt, of_bits}
-use Rattle.lists.specs.Loops.{foldl}
 use Rattle.lists.specs.Without.{without}
 use Rattle.doubles.specs.Constants.{zero_f}
 use Rattle.genome.specs.declared.GenomePosition.{GenomePosition}
@@ -47,32 +47,31 @@ left_are_the_run words lengths e = flatten_left (piles words lengths) ∙ piles_
 
 -- ---- the mean
 
-foldl-append : {S A : Type 0} (f : S → A → S) (s : S) (xs ys : List A) → foldl f s (xs ++ ys) ≡ foldl f (foldl f s xs) ys
-unfolding foldl
-foldl-append f s [] ys = refl
-foldl-append f s (x ∷ xs) ys = foldl-append f (f s x) xs ys
+fold-append : {S A : Type 0} (f : S → A → S) (s : S) (xs ys : List A) → fold f s (xs ++ ys) ≡ fold f (fold f s xs) ys
+fold-append f s [] ys = refl
+fold-append f s (x ∷ xs) ys = fold-append f (f s x) xs ys
 
-foldl-flatten : {S A : Type 0} (f : S → A → S) (s : S) (ls : List (List A)) → foldl (λ (r : S) (l : List A). foldl f r l) s ls ≡ foldl f s (flatten ls)
-unfolding foldl flatten
-foldl-flatten f s [] = refl
-foldl-flatten f s (l ∷ ls) = foldl-flatten f (foldl f s l) ls ∙ sym (foldl-append f s l (flatten ls))
+fold-flatten : {S A : Type 0} (f : S → A → S) (s : S) (ls : List (List A)) → fold (λ (r : S) (l : List A). fold f r l) s ls ≡ fold f s (flatten ls)
+unfolding flatten
+fold-flatten f s [] = refl
+fold-flatten f s (l ∷ ls) = fold-flatten f (fold f s l) ls ∙ sym (fold-append f s l (flatten ls))
 
 -- the clip mean of a set is that of its run
 pub mean_of_the_run : (s : HaplotypeCallerActivityScoringParams) (words lengths : List ℕ) → total lengths ≡ length words → stratified_mean s (piles_left words lengths) ≡ mean_of s words
 unfolding stratified_mean mean_of
-mean_of_the_run s words lengths e = ap (λ (r : RunningMean). r.mean) (foldl-flatten (with_word s) none (piles_left words lengths) ∙ ap (foldl (with_word s) none) (left_are_the_run words lengths e))
+mean_of_the_run s words lengths e = ap (λ (r : RunningMean). r.mean) (fold-flatten (with_word s) none (piles_left words lengths) ∙ ap (fold (with_word s) none) (left_are_the_run words lengths e))
 
 -- ---- how many are left
 
-count_from : (k : ℕ) (words lengths : List ℕ) → total lengths ≤ length words → foldl with_length k lengths ≡ k + length (piles_left words lengths)
-unfolding piles total without foldl
+count_from : (k : ℕ) (words lengths : List ℕ) → total lengths ≤ length words → fold with_length k lengths ≡ k + length (piles_left words lengths)
+unfolding piles total without
 count_from k words [] h = sym (add-zero k)
 count_from k words (n ∷ lengths) h =
     let few = length-take-le n words (omega arith) in
     rw few (go (eqb n 0) (count_from (cond (eqb n 0) k (k + 1)) (drop n words) lengths (omega (arith, length-drop n words))))
   where
-    go : (b : Bool) → foldl with_length (cond b k (k + 1)) lengths ≡ cond b k (k + 1) + length (piles_left (drop n words) lengths)
-        → foldl with_length (cond b k (k + 1)) lengths ≡ k + length (cond b (piles_left (drop n words) lengths) (take n words ∷ piles_left (drop n words) lengths))
+    go : (b : Bool) → fold with_length (cond b k (k + 1)) lengths ≡ cond b k (k + 1) + length (piles_left (drop n words) lengths)
+        → fold with_length (cond b k (k + 1)) lengths ≡ k + length (cond b (piles_left (drop n words) lengths) (take n words ∷ piles_left (drop n words) lengths))
     go true e = omega (arith, e)
     go false e = omega (arith, e)
 
@@ -105,7 +104,7 @@ not_empty (p ∷ ps) pile e = go (is_empty p) refl e (not_empty ps pile)
     go false f e rest = ap is_empty (sym (head-eq_of_cons-eq e)) ∙ f
 
 no_clips : (s : HaplotypeCallerActivityScoringParams) → evidence_of (stratified_mean s []) ≡ Plain
-unfolding evidence_of stratified_mean foldl lt of_bits
+unfolding evidence_of stratified_mean lt of_bits
 no_clips s = refl
 
 module _ (rounded : List ℕ → List Float) (activity : List Float → Activity) where

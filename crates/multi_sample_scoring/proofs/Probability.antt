@@ -1,11 +1,11 @@
 -- The probability of a set is in 0.0 to 1.0, for every set that is not refused: so no add refuses what scoring a set answered with 8. Assumes nothing.
 use mathlib.Core.Path.{◌≡◌, refl, sym, ap, subst}
+use Rattle.std.specs.List.{fold}
 use mathlib.Core.Bool.{Bool, true, false, cond, not}
 use mathlib.Core.List.{List, [], ◌∷◌, map}
 use Prim.Native.Nat.{ℕ}
 use lib.Dec.{T, lit≤}
 use lib.Ieee.{Float, binary64, of_bits, sub, lt, le}
-use Rattle.lists.specs.Loops.{foldl}
 use Rattle.lists.specs.Tests.{and_left, and_right}
 use Rattle.doubles.specs.Constants.{zero_f, one_f}
 use Rattle.double_ranges.specs.Small.{Small, mul_small, one_less, one_less_unit, unit_of_small}
@@ -47,8 +47,8 @@ less_small : (x : Float) → is_probability x ≡ true → Small false (sub bina
 less_small x e = one_less_unit x (subst T (sym (and_left (le zero_f x) (le x one_f) e)) tt) (subst T (sym (and_right (le zero_f x) (le x one_f) e)) tt)
 
 module _ (p : GenomePosition) (s : HaplotypeCallerActivityScoringParams) (ranged : in_range p s ≡ true) where
-  product_small : (q : Float) (ps : List (List ℕ)) → Small false q → Small false (foldl (with_sample (from_rounded s)) q (map (λ (pile : List ℕ). rounded_of pile s) ps))
-  unfolding foldl activity_of
+  product_small : (q : Float) (ps : List (List ℕ)) → Small false q → Small false (fold (with_sample (from_rounded s)) q (map (λ (pile : List ℕ). rounded_of pile s) ps))
+  unfolding activity_of
   product_small q [] h = h
   product_small q (pile ∷ ps) h =
       let x = (activity_of pile s).probability in
@@ -59,7 +59,7 @@ module _ (p : GenomePosition) (s : HaplotypeCallerActivityScoringParams) (ranged
   set_unit contig [] = small_unit zero_f zero_small
   set_unit contig (pile ∷ []) = state_unit contig p pile s ranged
   set_unit contig (a ∷ b ∷ ps) =
-      let q = foldl (with_sample (from_rounded s)) one_f (map (λ (pile : List ℕ). rounded_of pile s) (a ∷ b ∷ ps)) in
+      let q = fold (with_sample (from_rounded s)) one_f (map (λ (pile : List ℕ). rounded_of pile s) (a ∷ b ∷ ps)) in
       small_unit (sub binary64 one_f q) (one_less q (product_small one_f (a ∷ b ∷ ps) one_small))
 
 pub set_in_unit : (contig : ℕ) (p : GenomePosition) (words lengths : List ℕ) (s : HaplotypeCallerActivityScoringParams) (r : ActivityProfileState)

@@ -1,10 +1,10 @@
 -- The score of a set by tables is, by whatever was filled, for whatever settings, the plain one. Assumes nothing.
 use Rattle.std.specs.Prelude.{◌≡◌, Bool, true, false, ℕ, ◌≤◌, length, replicate, Float}
+use Rattle.std.specs.List.{fold}
 use Rattle.std.proofs.Math.Path.{refl, ap}
 use Rattle.std.proofs.Common.{◌∙◌}
 use mathlib.Core.List.{List, [], ◌∷◌, map}
 use Rattle.std.specs.Float.Ieee.{binary64, sub, mul}
-use Rattle.lists.specs.Loops.{foldl}
 use Rattle.lists.specs.Tests.{and_left}
 use Rattle.doubles.specs.Constants.{zero_f, one_f}
 use Rattle.genome.specs.declared.GenomePosition.{GenomePosition}
@@ -26,11 +26,10 @@ use Rattle.multi_sample_scoring.specs.Tables.{set_score_by}
 -- ---- two ways to an activity that agree
 
 module _ (rounded rounded' : List ℕ → List Float) (activity activity' : List Float → Activity) (same : (pile : List ℕ) → activity (rounded pile) ≡ activity' (rounded' pile)) where
-  product_same : (q : Float) (piles : List (List ℕ)) → foldl (with_sample activity) q (map rounded piles) ≡ foldl (with_sample activity') q (map rounded' piles)
-  unfolding foldl
+  product_same : (q : Float) (piles : List (List ℕ)) → fold (with_sample activity) q (map rounded piles) ≡ fold (with_sample activity') q (map rounded' piles)
   product_same q [] = refl
   product_same q (pile ∷ piles) =
-      ap (λ (a : Activity). foldl (with_sample activity) (mul binary64 q (clamped (sub binary64 one_f a.probability))) (map rounded piles)) (same pile)
+      ap (λ (a : Activity). fold (with_sample activity) (mul binary64 q (clamped (sub binary64 one_f a.probability))) (map rounded piles)) (same pile)
       ∙ product_same (with_sample activity' q (rounded' pile)) piles
 
   set_same : (contig : ℕ) (p : GenomePosition) (s : HaplotypeCallerActivityScoringParams) (piles : List (List ℕ))

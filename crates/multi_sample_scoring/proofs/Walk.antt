@@ -1,6 +1,7 @@
 -- One turn and the end of the loops over a set's lengths and piles, and that passing over the empty piles on the way is leaving them out before.
 -- Assumes nothing.
 use mathlib.Core.Path.{◌≡◌, refl}
+use Rattle.std.specs.List.{fold}
 use mathlib.Core.Bool.{Bool, true, false, cond}
 use mathlib.Core.List.{List, [], ◌∷◌, map}
 use Prim.Native.Nat.{ℕ, ◌+◌, ◌≤◌, ◌<◌}
@@ -10,7 +11,6 @@ use lib.Dec.{eqb}
 use lib.ListN.{length, get_or, take, drop, drop_of_length-le}
 use lib.Seq.{drop-cons, drop-drop}
 use lib.Ieee.{Float}
-use Rattle.lists.specs.Loops.{foldl}
 use Rattle.lists.specs.Without.{without}
 use Rattle.genotype_likelihoods.specs.declared.HaplotypeCallerActivityScoringParams.{HaplotypeCallerActivityScoringParams}
 use Rattle.activity_scoring.specs.Tables.{from_rounded_by, rounded_by}
@@ -35,23 +35,23 @@ total_end lengths i h = rw (drop_of_length-le lengths {i = i} h)
 
 -- what is left of the run begins with the pile that is next
 pub piles-turn : {S : Type 0} (f : S → List ℕ → S) (q : S) (words lengths : List ℕ) (at i : ℕ) → i < length lengths
-    → foldl f (f q (take (get_or lengths i 0) (drop at words))) (piles (drop (at + get_or lengths i 0) words) (drop (i + 1) lengths)) ≡ foldl f q (piles (drop at words) (drop i lengths))
-unfolding foldl piles
+    → fold f (f q (take (get_or lengths i 0) (drop at words))) (piles (drop (at + get_or lengths i 0) words) (drop (i + 1) lengths)) ≡ fold f q (piles (drop at words) (drop i lengths))
+unfolding piles
 piles-turn f q words lengths at i h = rw (add-one, drop-cons lengths i 0 h, drop-drop (get_or lengths i 0) at words)
 
-pub piles_end : {S : Type 0} (f : S → List ℕ → S) (q : S) (words lengths : List ℕ) (i : ℕ) → length lengths ≤ i → foldl f q (piles words (drop i lengths)) ≡ q
-unfolding foldl piles
+pub piles_end : {S : Type 0} (f : S → List ℕ → S) (q : S) (words lengths : List ℕ) (i : ℕ) → length lengths ≤ i → fold f q (piles words (drop i lengths)) ≡ q
+unfolding piles
 piles_end f q words lengths i h = rw (drop_of_length-le lengths {i = i} h)
 
 -- passed over on the way, or left out before
 pub walk_is : (table priors : List Float) (s : HaplotypeCallerActivityScoringParams) (q : Float) (ps : List (List ℕ))
-    → foldl (with_pile table priors s) q ps ≡ foldl (with_sample (from_rounded_by priors s)) q (map (λ (pile : List ℕ). rounded_by table pile s) (without is_empty ps))
-unfolding foldl without with_pile
+    → fold (with_pile table priors s) q ps ≡ fold (with_sample (from_rounded_by priors s)) q (map (λ (pile : List ℕ). rounded_by table pile s) (without is_empty ps))
+unfolding without with_pile
 walk_is table priors s q [] = refl
 walk_is table priors s q (p ∷ ps) = go (is_empty p) (λ r. walk_is table priors s r ps)
   where
-    go : (b : Bool) → ((r : Float) → foldl (with_pile table priors s) r ps ≡ foldl (with_sample (from_rounded_by priors s)) r (map (λ (pile : List ℕ). rounded_by table pile s) (without is_empty ps)))
-        → foldl (with_pile table priors s) (cond b q (with_sample (from_rounded_by priors s) q (rounded_by table p s))) ps
-        ≡ foldl (with_sample (from_rounded_by priors s)) q (map (λ (pile : List ℕ). rounded_by table pile s) (cond b (without is_empty ps) (p ∷ without is_empty ps)))
+    go : (b : Bool) → ((r : Float) → fold (with_pile table priors s) r ps ≡ fold (with_sample (from_rounded_by priors s)) r (map (λ (pile : List ℕ). rounded_by table pile s) (without is_empty ps)))
+        → fold (with_pile table priors s) (cond b q (with_sample (from_rounded_by priors s) q (rounded_by table p s))) ps
+        ≡ fold (with_sample (from_rounded_by priors s)) q (map (λ (pile : List ℕ). rounded_by table pile s) (cond b (without is_empty ps) (p ∷ without is_empty ps)))
     go true rest = rest q
     go false rest = rest (with_sample (from_rounded_by priors s) q (rounded_by table p s))

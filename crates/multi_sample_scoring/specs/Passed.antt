@@ -1,6 +1,6 @@
 -- What the code goes through: every length and every pile, the empty ones passed over on the way. Document 02 has no such terms.
 use Rattle.std.specs.Prelude.{cond, List, [], ◌∷◌, map, ℕ, ◌+◌, eqb, Float}
-use Rattle.lists.specs.Loops.{foldl}
+use Rattle.std.specs.List.{fold}
 use Rattle.doubles.specs.Constants.{zero_f}
 use Rattle.genotype_likelihoods.specs.declared.HaplotypeCallerActivityScoringParams.{HaplotypeCallerActivityScoringParams}
 use Rattle.activity_scoring.specs.declared.Activity.{Activity}
@@ -12,7 +12,7 @@ abbrev pub with_length : ℕ → ℕ → ℕ
 with_length k n = cond (eqb n 0) k (k + 1)
 
 abbrev pub count_left : List ℕ → ℕ
-count_left lengths = foldl with_length 0 lengths
+count_left lengths = fold with_length 0 lengths
 
 -- the probability that no sample is active, after one pile more
 unfoldable pub with_pile : List Float → List Float → HaplotypeCallerActivityScoringParams → Float → List ℕ → Float

@@ -1,9 +1,9 @@
 -- 02, U6, "Pools read as several samples": a set of piles, scored together. The Rust's names are haplotype_caller_activity_profile_state_multi_sample,
 -- calculate_multi_sample_any_non_ref_posterior and hq_soft_clip_running_mean_rcm_stratified.
 use Rattle.std.specs.Prelude.{Bool, false, cond, not, ◌||◌, List, [], ◌∷◌, map, ℕ, ◌+◌, ltb, eqb, length, take, drop, Float}
+use Rattle.std.specs.List.{fold}
 use Rattle.std.specs.Float.{binary64}
 use Rattle.std.specs.Float.Ieee.{sub, mul, lt}
-use Rattle.lists.specs.Loops.{foldl}
 use Rattle.lists.specs.Without.{without}
 use Rattle.doubles.specs.Constants.{zero_f, one_f}
 use Rattle.genome.specs.declared.GenomePosition.{GenomePosition}
@@ -50,16 +50,16 @@ with_sample activity q gl = mul binary64 q (clamped (sub binary64 one_f (activit
 
 -- "after calculate_multi_sample_any_non_ref_posterior": 1 less the product of 1.0 and, in the order of the piles, each 1 - p
 unfoldable pub any_non_ref : (List Float → Activity) → List (List Float) → Float
-any_non_ref activity gls = sub binary64 one_f (foldl (with_sample activity) one_f gls)
+any_non_ref activity gls = sub binary64 one_f (fold (with_sample activity) one_f gls)
 
 -- ---- the evidence
 
 -- "The clip mean runs on across piles in their order": a pile's words begin with the mean of those before
 abbrev pub with_words : HaplotypeCallerActivityScoringParams → RunningMean → List ℕ → RunningMean
-with_words s r pile = foldl (with_word s) r pile
+with_words s r pile = fold (with_word s) r pile
 
 unfoldable pub stratified_mean : HaplotypeCallerActivityScoringParams → List (List ℕ) → Float
-stratified_mean s left = (foldl (with_words s) none left).mean
+stratified_mean s left = (fold (with_words s) none left).mean
 
 -- ---- the state, of the piles that are left
 
@@ -87,7 +87,7 @@ abbrev pub or_too_deep : Bool → ℕ → Bool
 or_too_deep b n = b || ltb max_depth n
 
 abbrev pub any_too_deep : List ℕ → Bool
-any_too_deep lengths = foldl or_too_deep false lengths
+any_too_deep lengths = fold or_too_deep false lengths
 
 -- "12 .. before every other check of scoring; then 1, 4 in any pile, 3 in any pile"; "lengths that do not add up to the run are refused 3, before any word is
 -- looked at"

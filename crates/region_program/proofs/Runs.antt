@@ -1,5 +1,6 @@
 -- One observation more of a run is acting on one event more, and so a run is acting on each of its words. Assumes nothing.
 use mathlib.Core.Path.{◌≡◌, refl, sym, ap, subst, ◌∙◌}
+use Rattle.std.specs.List.{fold}
 use mathlib.Core.Bool.{Bool, true, false, cond}
 use mathlib.Core.List.{List, [], ◌∷◌, ◌++◌}
 use Prim.Native.Nat.{ℕ, zero, suc, ◌+◌, ◌%◌, ◌^◌, ◌<◌, ◌≤◌}
@@ -11,8 +12,7 @@ use borrow.Author.Tests.{eqb-true, le-ltb, ltb-true, ltb-false}
 use lib.ListN.{length, length-set, get_or, take, set}
 use lib.Seq.{length-take-le, take_all, take-suc-set}
 use lib.Ieee.{Float}
-use Rattle.lists.specs.Folds.{foldl_more}
-use Rattle.lists.specs.Loops.{foldl}
+use Rattle.lists.specs.Folds.{fold_more}
 use Rattle.pileup_words.specs.Words.{kind_of, is_observation}
 use Rattle.pileup_words.specs.Events.{event_of, events_of}
 use Rattle.activity_profile.specs.declared.ActivityProfileRegion.{ActivityProfileRegion}
@@ -61,8 +61,7 @@ run_more scoring s l i d n w pile kernel cells long is =
 
 -- ---- a whole run
 
-kept-length : (k : Kept) (words : List ℕ) → length (foldl kept_more k words).pile ≡ length k.pile
-unfolding foldl
+kept-length : (k : Kept) (words : List ℕ) → length (fold kept_more k words).pile ≡ length k.pile
 kept-length k [] = refl
 kept-length k (w ∷ words) = kept-length (kept_more k w) words ∙ go (ltb k.depth (length k.pile))
   where
@@ -78,44 +77,40 @@ module _ (scoring : Scoring) (s : RegionStream) (l i d : ℕ) (words pile : List
   one_more n h is t =
       let k = kept_all d pile (take n words) in
       let deep : length k.pile ≡ PILE = kept-length (record { depth = d; pile = pile }) (take n words) ∙ long in
-      rw (foldl_more kept_more (record { depth = d; pile = pile }) words n 0 h)
+      rw (fold_more kept_more (record { depth = d; pile = pile }) words n 0 h)
       (run_more scoring s l i k.depth n (get_or words n 0) k.pile kernel cells deep is
       ∙ ap (λ (a : Answer). then_act scoring a (get_or words n 0)) t
-      ∙ sym (foldl_more (then_act scoring) (goes (seen s pile kernel cells)) words n 0 h))
+      ∙ sym (fold_more (then_act scoring) (goes (seen s pile kernel cells)) words n 0 h))
 
   -- the first n words, all of them observations
   pub run_taken : (n : ℕ) → n ≤ length words → ((k : ℕ) → k < n → is_observation (get_or words k 0) ≡ true) → TakenSo n
-  unfolding foldl
   run_taken zero h all = ap (λ (t : RegionStream). goes (seen t pile kernel cells)) (run_begins s l i d e small)
   run_taken (suc n) h all = subst TakenSo (add-one n) (one_more n h (all n (le_refl (suc n))) (run_taken n (omega arith) (λ k q. all k (omega arith))))
 
 -- ---- a caller who takes runs
 
 -- an answer that is no `goes` stays what it is
-again_stays : (scoring : Scoring) (s : Reading) (words : List ℕ) → foldl (then_act scoring) (again s) words ≡ again s
-unfolding foldl
+again_stays : (scoring : Scoring) (s : Reading) (words : List ℕ) → fold (then_act scoring) (again s) words ≡ again s
 again_stays scoring s [] = refl
 again_stays scoring s (w ∷ words) = again_stays scoring s words
 
-line_stays : (scoring : Scoring) (r : ActivityProfileRegion) (s : Reading) (words : List ℕ) → foldl (then_act scoring) (line r s) words ≡ line r s
-unfolding foldl
+line_stays : (scoring : Scoring) (r : ActivityProfileRegion) (s : Reading) (words : List ℕ) → fold (then_act scoring) (line r s) words ≡ line r s
 line_stays scoring r s [] = refl
 line_stays scoring r s (w ∷ words) = line_stays scoring r s words
 
-stop_stays : (scoring : Scoring) (n i : ℕ) (s : Reading) (words : List ℕ) → foldl (then_act scoring) (stops n i s) words ≡ stops n i s
-unfolding foldl
+stop_stays : (scoring : Scoring) (n i : ℕ) (s : Reading) (words : List ℕ) → fold (then_act scoring) (stops n i s) words ≡ stops n i s
 stop_stays scoring n i s [] = refl
 stop_stays scoring n i s (w ∷ words) = stop_stays scoring n i s words
 
 -- Words that were done one after the other may be taken at once: the caller prints the same.
 pub fed_run : (scoring : Scoring) (remainder : Bool) (s t : Reading) (run words : List ℕ) (p : Printed) → goes t ≡ acted_on scoring s run → FedBy scoring t (events_of words remainder) p → FedBy scoring s (events_of (run ++ words) remainder) p
-unfolding foldl events_of
+unfolding events_of
 fed_run scoring remainder s t [] words p e f = let same : t ≡ s = cc in subst (λ (x : Reading). FedBy scoring x (events_of words remainder) p) same f
 fed_run scoring remainder s t (w ∷ run) words p e f = go (act_by scoring (event_of w) s) refl (λ u h. fed_run scoring remainder u t run words p h f)
   where
     go : (a : Answer) → act_by scoring (event_of w) s ≡ a → ((u : Reading) → goes t ≡ acted_on scoring u run → FedBy scoring u (events_of (run ++ words) remainder) p)
         → FedBy scoring s (event_of w ∷ events_of (run ++ words) remainder) p
-    go (goes u) h rest = onward s u (event_of w) (events_of (run ++ words) remainder) p h (rest u (e ∙ ap (λ (a : Answer). foldl (then_act scoring) a run) h))
-    go (again u) h rest = absurd (let g : goes t ≡ again u = e ∙ ap (λ (a : Answer). foldl (then_act scoring) a run) h ∙ again_stays scoring u run in let z : ◌≡◌ {A = ℕ} 0 1 = cc in omega arith)
-    go (line r u) h rest = absurd (let g : goes t ≡ line r u = e ∙ ap (λ (a : Answer). foldl (then_act scoring) a run) h ∙ line_stays scoring r u run in let z : ◌≡◌ {A = ℕ} 0 1 = cc in omega arith)
-    go (stops n i u) h rest = absurd (let g : goes t ≡ stops n i u = e ∙ ap (λ (a : Answer). foldl (then_act scoring) a run) h ∙ stop_stays scoring n i u run in let z : ◌≡◌ {A = ℕ} 0 1 = cc in omega arith)
+    go (goes u) h rest = onward s u (event_of w) (events_of (run ++ words) remainder) p h (rest u (e ∙ ap (λ (a : Answer). fold (then_act scoring) a run) h))
+    go (again u) h rest = absurd (let g : goes t ≡ again u = e ∙ ap (λ (a : Answer). fold (then_act scoring) a run) h ∙ again_stays scoring u run in let z : ◌≡◌ {A = ℕ} 0 1 = cc in omega arith)
+    go (line r u) h rest = absurd (let g : goes t ≡ line r u = e ∙ ap (λ (a : Answer). fold (then_act scoring) a run) h ∙ line_stays scoring r u run in let z : ◌≡◌ {A = ℕ} 0 1 = cc in omega arith)
+    go (stops n i u) h rest = absurd (let g : goes t ≡ stops n i u = e ∙ ap (λ (a : Answer). fold (then_act scoring) a run) h ∙ stop_stays scoring n i u run in let z : ◌≡◌ {A = ℕ} 0 1 = cc in omega arith)

@@ -1,6 +1,7 @@
 -- A run of observations taken at once: as acting on each of them in turn.
 use Rattle.std.specs.Prelude.{Bool, cond, not, List, ◌≡◌, ℕ, ◌+◌, ◌%◌, ◌^◌, ◌≤◌, ltb, length, take, Float}
-use Rattle.lists.specs.Loops.{foldl, first_at}
+use Rattle.std.specs.List.{fold}
+use Rattle.lists.specs.Loops.{first_at}
 use Rattle.pileup_words.specs.Words.{is_observation}
 use Rattle.pileup_words.specs.Events.{event_of}
 use Rattle.region_program.specs.declared.RegionStream.{RegionStream}
@@ -29,7 +30,7 @@ then_act scoring (stops n i s) w = stops n i s
 
 -- each word in its order
 abbrev pub acted_on : Scoring → Reading → List ℕ → Answer
-acted_on scoring s words = foldl (then_act scoring) (goes s) words
+acted_on scoring s words = fold (then_act scoring) (goes s) words
 
 -- how many words of the lent pile are kept, and the pile
 pub record Kept : Type 0 where
@@ -44,7 +45,7 @@ kept_more k w = record {
 }
 
 abbrev pub kept_all : ℕ → List ℕ → List ℕ → Kept
-kept_all depth pile words = foldl kept_more (record { depth = depth; pile = pile }) words
+kept_all depth pile words = fold kept_more (record { depth = depth; pile = pile }) words
 
 -- what becomes of the lent pile: without a pile open, nothing
 abbrev pub pile_run : Phase → List ℕ → List ℕ → List ℕ

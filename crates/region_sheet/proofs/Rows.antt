@@ -1,5 +1,6 @@
 -- A row of 32-bit numbers has 45 characters and a line feed, and each number, read back from its columns, is the number. Assumes nothing.
 use mathlib.Core.Path.{◌≡◌, refl, sym, ap, ◌∙◌}
+use Rattle.std.specs.List.{fold}
 use mathlib.Core.Bool.{Bool, true, false, cond}
 use mathlib.Core.Logic.{◌⊎◌, inl, inr}
 use mathlib.Core.List.{List, [], ◌∷◌, ◌++◌}
@@ -9,7 +10,6 @@ use borrow.Author.Tests.{ltb-true, ltb-false}
 use lib.Dec.{ltb}
 use lib.ListN.{length, get_or, take, drop, replicate, length-append, length-replicate}
 use lib.Seq.{take_at, take-append-add, drop_at, drop-append-add, drop-drop, get_or_at, get_or-drop}
-use Rattle.lists.specs.Loops.{foldl}
 use Rattle.activity_profile.specs.declared.ActivityProfileRegion.{ActivityProfileRegion}
 use Rattle.region_text.specs.Text.{blank, line_feed, digit, digits_onto, decimal, flag}
 use Rattle.region_text.proofs.Decimal.{read, decimal-read}
@@ -27,7 +27,7 @@ columns_at row i = take position_columns (drop i row)
 
 -- read as a number, where a blank in front is nothing
 abbrev pub number : List ℕ → ℕ
-number bytes = foldl read 0 bytes
+number bytes = fold read 0 bytes
 
 -- the five numbers in their columns, a blank between any two, and the line feed
 pub record Read (r : ActivityProfileRegion) (row : List ℕ) : Type 0 where
@@ -70,12 +70,11 @@ column_length n h =
     length-append (replicate (position_columns - length digits) blank) digits ∙ omega (arith, length-replicate (position_columns - length digits) blank, few)
 
 -- blanks in front read as nothing
-blanks_read : (j : ℕ) (t : List ℕ) → foldl read 0 (replicate j blank ++ t) ≡ foldl read 0 t
-unfolding foldl
+blanks_read : (j : ℕ) (t : List ℕ) → fold read 0 (replicate j blank ++ t) ≡ fold read 0 t
 blanks_read zero t = refl
 blanks_read (suc j) t = blanks_read j t
 
-column_read : (columns n : ℕ) → n < 2 ^ 32 → foldl read 0 (right_aligned columns n) ≡ n
+column_read : (columns n : ℕ) → n < 2 ^ 32 → fold read 0 (right_aligned columns n) ≡ n
 column_read columns n h = blanks_read (columns - length (decimal n [])) (decimal n []) ∙ decimal-read n (omega (arith, h))
 
 -- ---- columns in a row

@@ -1,10 +1,11 @@
 -- P1 to P15 of document 01, and examples of document 02, against the definitions. Assumes nothing.
 use Rattle.std.specs.Prelude.{◌≡◌, refl, Bool, true, false, cond, List, [], ◌∷◌, ◌++◌, map, ℕ, ◌+◌, ◌*◌, length, get_or, replicate, Float}
+use Rattle.std.specs.List.{fold}
 use Rattle.std.proofs.Common.{arith}
 use Rattle.std.specs.Float.{binary64, nan}
 use Rattle.std.specs.Float.Ieee.{neg, round, of_bits, to_bits, of_int, to_unsigned, add, sub, mul, div, lt, le, ne}
 use Rattle.lists.specs.Each.{each, up_to}
-use Rattle.lists.specs.Loops.{along, down, first_at, foldl}
+use Rattle.lists.specs.Loops.{along, down, first_at}
 use Rattle.lists.specs.Without.{without}
 use Rattle.activity_profile.specs.declared.BandPassActivityProfile.{BandPassActivityProfile}
 use Rattle.activity_profile.specs.declared.ActivityProfileState.{ActivityProfileState}
@@ -218,7 +219,7 @@ table =
       given = qual_of defaults (word 255 1 1 0 0) ∷ map (λ s. skipped_of s (word 255 1 1 0 0)) (minimum 30 true ∷ minimum 31 true ∷ minimum 31 false ∷ []);
       wanted = 30 ∷ 0 ∷ 1 ∷ 0 ∷ [];
     }
-    ∷ record { number = 203; given = foldl (counted defaults) 0 (word 255 0 1 0 0 ∷ word 30 0 1 0 0 ∷ word 255 1 1 0 0 ∷ word 255 0 0 0 0 ∷ []) ∷ []; wanted = 2 ∷ [] }
+    ∷ record { number = 203; given = fold (counted defaults) 0 (word 255 0 1 0 0 ∷ word 30 0 1 0 0 ∷ word 255 1 1 0 0 ∷ word 255 0 0 0 0 ∷ []) ∷ []; wanted = 2 ∷ [] }
     ∷ record { number = 203; given = evidence_told (evidence_of (mean_of defaults (word 255 0 1 1 40 ∷ word 30 0 1 1 6 ∷ word 255 0 1 1 0 ∷ word 30 0 1 1 8 ∷ []))); wanted = 1 ∷ 7 ∷ [] }
     ∷ record { number = 203; given = numbered (clip_count ((3 * 16 + 4) ∷ (2 * 16 + 0) ∷ (2 * 16 + 4) ∷ []) (255 ∷ 29 ∷ 254 ∷ 40 ∷ 40 ∷ 40 ∷ 255 ∷ [])); wanted = 1 ∷ 3 ∷ [] }
     -- U4: M I D N S H P = X, and past the table. S counts both of its bases
@@ -267,5 +268,5 @@ table =
 
 -- the one proof
 pub table_right : all_right table ≡ true
-unfolding table all_right same set_of score_told near_clips piles without total set_state_with any_non_ref clamped stratified_mean set_score_with state_with mul Rattle.genotype_likelihoods.specs.Settings.settings_in_range cells_needed one_behind_zeros count_told after step add_answer add_answer_by add_cells add_cells_by pop_cells pop_cells_by add_verdict added_profile first_locus highest needed pop_of told peak_told peak_of tenths hundredths profile pop_answer pop_answer_by pop_verdict turn kept broken settings_in_range placed qualifies beats replaces better best_cut_site or_most size_of pop_size region_with region_of leads peak_index along rest super_states numbered clip_count count_high by_operation then_clip word minimum skipped_of clips_of evidence_told effective_qual lacks_quality skips counted evidence_of mean_of with_word pl_of min_f to_unsigned of_int add sub div ne foldl down first_at each up_to lt le neg of_bits to_bits round
+unfolding table all_right same set_of score_told near_clips piles without total set_state_with any_non_ref clamped stratified_mean set_score_with state_with mul Rattle.genotype_likelihoods.specs.Settings.settings_in_range cells_needed one_behind_zeros count_told after step add_answer add_answer_by add_cells add_cells_by pop_cells pop_cells_by add_verdict added_profile first_locus highest needed pop_of told peak_told peak_of tenths hundredths profile pop_answer pop_answer_by pop_verdict turn kept broken settings_in_range placed qualifies beats replaces better best_cut_site or_most size_of pop_size region_with region_of leads peak_index along rest super_states numbered clip_count count_high by_operation then_clip word minimum skipped_of clips_of evidence_told effective_qual lacks_quality skips counted evidence_of mean_of with_word pl_of min_f to_unsigned of_int add sub div ne down first_at each up_to lt le neg of_bits to_bits round
 table_right = refl

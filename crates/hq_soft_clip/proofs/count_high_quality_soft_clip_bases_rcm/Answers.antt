@@ -8,7 +8,7 @@ use borrow.Author.Rules.{rules}
 use Rattle.hq_soft_clip.proofs.Walks.{turn, walked-within}
 use Rattle.hq_soft_clip.proofs.Refused.{refused_count}
 use Rattle.hq_soft_clip.specs.SoftClips.{after, clip_count, count_of}
-use Rattle.lists.specs.Loops.{foldl_end}
+use Rattle.lists.specs.Loops.{fold_end}
 use Rattle.hq_soft_clip.proofs.count_high_quality_soft_clip_bases_rcm.Goals as goal
 
 pub loop-i-init : goal.loop-i-init
@@ -40,4 +40,4 @@ pub returns : goal.returns
 returns c =
     let at = c in
     let a = at.args in
-    sym (ap count_of (foldl_end (after a.qualities.now) _ _ _ c.loop-i-test.false)) ∙ at.loop-i.invariant.3
+    sym (ap count_of (fold_end (after a.qualities.now) _ _ _ c.loop-i-test.false)) ∙ at.loop-i.invariant.3

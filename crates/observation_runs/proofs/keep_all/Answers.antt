@@ -1,12 +1,11 @@
 -- `keep_all` meets its contract: the words before i are kept.
 use Rattle.std.proofs.Common.{◌≡◌, get_or, take, sym, refl, ap, ◌∙◌, arith, take_all, rules}
-use Rattle.lists.specs.Folds.{foldl_more}
-use Rattle.lists.specs.Loops.{foldl}
+use Rattle.std.specs.List.{fold}
+use Rattle.lists.specs.Folds.{fold_more}
 use Rattle.region_program.specs.Run.{Kept, kept_all, kept_more}
 use Rattle.observation_runs.proofs.keep_all.Goals as goal
 
 pub loop-i-init : goal.loop-i-init
-unfolding foldl
 loop-i-init c = (omega arith, refl, refl)
 
 pub loop-i-preserved : goal.loop-i-preserved
@@ -14,7 +13,7 @@ loop-i-preserved c =
     let a = c.args in
     let w = get_or a.words.now c.loop-i.i 0 in
     let e = c.keep-n.ensures in
-    let more = foldl_more kept_more (record { depth = a.kept; pile = a.pile.now }) a.words.now c.loop-i.i 0 c.loop-i-test.true in
+    let more = fold_more kept_more (record { depth = a.kept; pile = a.pile.now }) a.words.now c.loop-i.i 0 c.loop-i-test.true in
     (omega arith, search rules, rw (e.value, e.pile_after) (ap (λ (k : Kept). kept_more k w) c.loop-i.invariant.2 ∙ sym more))
 
 pub shape_of-pile : goal.shape_of-pile

@@ -1,11 +1,11 @@
 -- `calc_ref_vs_any_log10_genotype_likelihoods_by_table` meets its contract: by the table where it serves, else without it.
 use Rattle.std.proofs.Common.{◌≡◌, ◌-◌, List, length, take, drop, sym, ap, ◌∙◌, arith, length-drop, take_all}
+use Rattle.std.specs.List.{fold}
 use lib.Ieee.{Float}
 use Rattle.contribution_table.proofs.Rows.{serves_deletions, serves-length, serves_row}
 use Rattle.contribution_table.specs.Table.{heading, likelihood_at, likelihoods_by}
 use Rattle.genotype_likelihoods.specs.Likelihoods.{counted}
 use Rattle.lists.specs.Each.{tabulate}
-use Rattle.lists.specs.Loops.{foldl}
 use Rattle.contribution_table.proofs.likelihoods.calc_ref_vs_any_log10_genotype_likelihoods_by_table.Goals as goal
 
 pub returns-then-not-is_for : goal.returns-then-not-is_for
@@ -47,4 +47,4 @@ returns c =
     let all : take (length a.table.now - heading) rest ≡ rest = take_all (length a.table.now - heading) rest (omega (arith, length-drop heading a.table.now)) in
     simp (← is.is_for.ensures, c.if-not-is_for.false)
     (c.write_likelihoods.ensures
-    ∙ ap (λ (rs : List Float). tabulate (likelihood_at rs a.params a.pile.now (foldl (counted a.params) 0 a.pile.now)) (length a.gl.now)) all)
+    ∙ ap (λ (rs : List Float). tabulate (likelihood_at rs a.params a.pile.now (fold (counted a.params) 0 a.pile.now)) (length a.gl.now)) all)

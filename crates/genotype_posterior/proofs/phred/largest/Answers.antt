@@ -2,7 +2,7 @@
 use Rattle.std.proofs.Common.{sym, refl, ◌∙◌, arith}
 use lib.Ieee.{nan}
 use Rattle.genotype_posterior.specs.Phred.{max_f}
-use Rattle.lists.specs.Loops.{foldl_end, foldl-turn}
+use Rattle.lists.specs.Loops.{fold_end, fold-turn}
 use Rattle.genotype_posterior.proofs.phred.largest.Goals as goal
 
 pub loop-i-init : goal.loop-i-init
@@ -12,7 +12,7 @@ pub loop-i-preserved : goal.loop-i-preserved
 loop-i-preserved c =
     let at = c in
     let a = at.args in
-    rw c.max-top.ensures (foldl-turn max_f at.loop-i.top a.gl.now at.loop-i.i nan (omega arith) ∙ at.loop-i.invariant)
+    rw c.max-top.ensures (fold-turn max_f at.loop-i.top a.gl.now at.loop-i.i nan (omega arith) ∙ at.loop-i.invariant)
 
 pub returns : goal.returns
-returns c = sym (foldl_end max_f _ _ _ c.loop-i-test.false) ∙ c.loop-i.invariant
+returns c = sym (fold_end max_f _ _ _ c.loop-i-test.false) ∙ c.loop-i.invariant

@@ -1,8 +1,8 @@
 -- `calculate_multi_sample_any_non_ref_posterior` meets its contract: the piles from here on, begun with the product so far.
 use Prim.Native.Nat.{◌+◌, ◌*◌, ◌-◌, ◌≤◌}
+use Rattle.std.specs.List.{fold}
 use mathlib.Core.Path.{◌≡◌}
 use lib.ListN.{drop, length}
-use Rattle.lists.specs.Loops.{foldl}
 use Rattle.doubles.specs.Constants.{one_f}
 use Rattle.multi_sample_scoring.specs.Passed.{with_pile}
 use Rattle.multi_sample_scoring.specs.Sets.{piles, total}
@@ -11,7 +11,7 @@ use Rattle.multi_sample_scoring.proofs.score.calculate_multi_sample_any_non_ref_
 abbrev pub invariant-loop-i : goal.invariant-loop-i
 invariant-loop-i l =
     (l.i ≤ length l.lengths) × (l.at ≤ l.i * 4294967295) × (l.at + total (drop l.i l.lengths) ≡ length l.words)
-    × (foldl (with_pile l.table l.priors l.params) l.inactive_prob (piles (drop l.at l.words) (drop l.i l.lengths)) ≡ foldl (with_pile l.table l.priors l.params) one_f (piles l.words l.lengths))
+    × (fold (with_pile l.table l.priors l.params) l.inactive_prob (piles (drop l.at l.words) (drop l.i l.lengths)) ≡ fold (with_pile l.table l.priors l.params) one_f (piles l.words l.lengths))
 
 abbrev pub decreases-loop-i : goal.decreases-loop-i
 decreases-loop-i l = length l.lengths - l.i
