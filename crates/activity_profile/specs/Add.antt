@@ -1,5 +1,5 @@
 -- 01, Adding a locus.
-use Rattle.std.specs.Prelude.{Bool, not, ◌&&◌, ◌||◌, cond, List, [], ◌∷◌, ℕ, zero, suc, ◌+◌, ◌-◌, ◌*◌, min, max, leb, ltb, eqb, length, Float}
+use Rattle.std.specs.Prelude.{Bool, not, ◌&&◌, ◌||◌, cond, List, [], ◌∷◌, ℕ, zero, suc, ◌+◌, ◌-◌, ◌*◌, min, max, leb, ltb, eqb, length, Float, Result, Ok, Err}
 use Rattle.std.specs.Float.{binary64}
 use Rattle.std.specs.Float.Ieee.{add, mul, lt}
 use Rattle.lists.specs.Each.{each}
@@ -11,10 +11,7 @@ use Rattle.activity_profile.specs.declared.BandPassActivityProfile.{BandPassActi
 use Rattle.activity_profile.specs.declared.ActivityProfileState.{ActivityProfileState}
 use Rattle.activity_profile.specs.declared.ActivityEvidence.{ActivityEvidence}
 use Rattle.activity_profile.specs.declared.ActivityEvidence.TheVariants.{Plain, HighQualitySoftClips}
-use Rattle.activity_profile.specs.declared.AddVerdict.{AddVerdict}
-use Rattle.activity_profile.specs.declared.AddVerdict.TheVariants.{Granted, Refused as VerdictRefused}
-use Rattle.activity_profile.specs.declared.Added.{Added}
-use Rattle.activity_profile.specs.declared.Added.TheVariants.{Accepted, Refused}
+use Rattle.activity_profile.specs.declared.RefusedCall.{RefusedCall}
 use Rattle.activity_profile.specs.Loci.{from, cell}
 use Rattle.activity_profile.specs.Verdict.{Verdict, refusal, granted}
 use Rattle.activity_profile.specs.Profile.{D, holding, broken}
@@ -106,11 +103,6 @@ add_verdict p n k s =
     (cond (ltb n (needed p s)) (refusal cells_refusal)
     granted)))))
 
--- a verdict of the code in these terms
-abbrev pub add_verdict_of : AddVerdict → Verdict
-add_verdict_of Granted = granted
-add_verdict_of (VerdictRefused r) = refusal (number_of r)
-
 -- ---- the answer
 
 -- what an add answers: a refusal's number with the record as it was, or the record after it
@@ -119,9 +111,9 @@ pub data AddAnswer : Type 0 where
   accepted_add : BandPassActivityProfile → AddAnswer
 
 -- an answer of the code in these terms
-abbrev pub add_answer_of : Added → AddAnswer
-add_answer_of (Accepted p) = accepted_add p
-add_answer_of (Refused r p) = refused_add (number_of r) p
+abbrev pub add_answer_of : Result BandPassActivityProfile RefusedCall → AddAnswer
+add_answer_of (Ok p) = accepted_add p
+add_answer_of (Err e) = refused_add (number_of e.refusal) e.profile
 
 -- "Last input becomes p"
 unfoldable pub added_profile : BandPassActivityProfile → ActivityProfileState → BandPassActivityProfile

@@ -1,10 +1,8 @@
 -- 02, U5: the cells that a maker must provide. `most` is the max region size of the pops, `filter` the F of the record.
 use Rattle.std.specs.Prelude.{Bool, not, ◌&&◌, cond, ℕ, ◌+◌, ◌*◌, min, eqb}
-use Rattle.genome.specs.Refusals.{Outcome, refused, answered, number_of, setting_refusal, zero_size_refusal}
+use Rattle.genome.specs.Refusals.{Outcome, refused, answered, setting_refusal, zero_size_refusal}
 use Rattle.genome.specs.Ranges.{is_position}
 use Rattle.band_pass_kernel.specs.Resolve.{is_distance, is_filter}
-use Rattle.activity_profile.specs.declared.CellsNeeded.{CellsNeeded}
-use Rattle.activity_profile.specs.declared.CellsNeeded.TheVariants.{Cells, Refused}
 
 -- no "number outside its range": distance, filter size, contig length. Max region size has every value, and 0 is refusal 11
 abbrev pub sizes_in_range : ℕ → ℕ → ℕ → Bool
@@ -20,8 +18,3 @@ cells_needed most distance filter len =
     cond (not (sizes_in_range distance filter len)) (refused setting_refusal)
     (cond (eqb most 0) (refused zero_size_refusal)
     (answered (cells_for most distance filter len)))
-
--- an answer of the code in these terms
-abbrev pub cells_needed_of : CellsNeeded → Outcome ℕ
-cells_needed_of (Cells n) = answered n
-cells_needed_of (Refused r) = refused (number_of r)

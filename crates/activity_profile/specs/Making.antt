@@ -1,12 +1,10 @@
 -- 01, Refusals ("making a profile 1, 2") and Profile record: what a making answers, and what becomes of the two lent buffers.
 use Rattle.std.specs.Prelude.{true, cond, List, ◌≡◌, ℕ, ◌≤◌, Float}
-use Rattle.genome.specs.Refusals.{Outcome, refused, answered, number_of, setting_refusal}
+use Rattle.genome.specs.Refusals.{Outcome, refused, answered, setting_refusal}
 use Rattle.genome.specs.Ranges.{is_position}
 use Rattle.band_pass_kernel.specs.declared.BandPassActivityProfileParams.{BandPassActivityProfileParams}
 use Rattle.band_pass_kernel.specs.Resolve.{max_filter, in_range, resolution, full_after, narrow_after}
 use Rattle.activity_profile.specs.declared.BandPassActivityProfile.{BandPassActivityProfile}
-use Rattle.activity_profile.specs.declared.Made.{Made}
-use Rattle.activity_profile.specs.declared.Made.TheVariants.{Profile, Refused}
 
 -- "A making returns count 0 with the contig number and settings it was given and the F of its kernel"; "Count 0 has start and last 0"
 abbrev pub fresh_profile : ℕ → ℕ → BandPassActivityProfileParams → ℕ → BandPassActivityProfile
@@ -29,11 +27,6 @@ made_of contig len s (answered f) = answered (fresh_profile contig len s f)
 -- refusal 1 of the contig length, then those of the kernel's settings and buffers, n and m being the buffers' lengths
 unfoldable pub making : ℕ → ℕ → BandPassActivityProfileParams → ℕ → ℕ → Outcome BandPassActivityProfile
 making contig len s n m = cond (is_position len) (made_of contig len s (resolution s n m)) (refused setting_refusal)
-
--- an answer of the code in these terms
-abbrev pub making_of : Made → Outcome BandPassActivityProfile
-making_of (Profile p) = answered p
-making_of (Refused r) = refused (number_of r)
 
 -- the buffers after a making: as resolving the kernel leaves them
 unfoldable pub full_after_making : ℕ → BandPassActivityProfileParams → List Float → ℕ → List Float

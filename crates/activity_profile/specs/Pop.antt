@@ -1,5 +1,5 @@
 -- 01, Popping. `least` and `most` are the pop's min and max region size.
-use Rattle.std.specs.Prelude.{Bool, not, ◌&&◌, ◌||◌, cond, List, ℕ, zero, suc, ◌+◌, ◌-◌, min, max, leb, ltb, eqb, length, take, Float}
+use Rattle.std.specs.Prelude.{Bool, not, ◌&&◌, ◌||◌, cond, List, ℕ, zero, suc, ◌+◌, ◌-◌, min, max, leb, ltb, eqb, length, take, Float, Result, Ok, Err}
 use Rattle.std.specs.Bool.{beq}
 use Rattle.std.specs.Float.Ieee.{lt, le}
 use Rattle.lists.specs.Each.{each}
@@ -9,7 +9,8 @@ use Rattle.genome.specs.Refusals.{number_of, broken_refusal, zero_size_refusal}
 use Rattle.activity_profile.specs.declared.BandPassActivityProfile.{BandPassActivityProfile}
 use Rattle.activity_profile.specs.declared.ActivityProfileRegion.{ActivityProfileRegion}
 use Rattle.activity_profile.specs.declared.Popped.{Popped}
-use Rattle.activity_profile.specs.declared.Popped.TheVariants.{Ready, Held, Empty, Refused}
+use Rattle.activity_profile.specs.declared.Popped.TheVariants.{Ready, Held, Empty}
+use Rattle.activity_profile.specs.declared.RefusedCall.{RefusedCall}
 use Rattle.activity_profile.specs.Loci.{cell}
 use Rattle.activity_profile.specs.Verdict.{Verdict, refusal, granted}
 use Rattle.activity_profile.specs.Profile.{D, holding, broken}
@@ -128,11 +129,11 @@ pub data PopAnswer : Type 0 where
   region_pop : ActivityProfileRegion → BandPassActivityProfile → PopAnswer
 
 -- an answer of the code in these terms
-abbrev pub pop_answer_of : Popped → PopAnswer
-pop_answer_of (Ready r p) = region_pop r p
-pop_answer_of (Held p) = held_pop p
-pop_answer_of (Empty p) = empty_pop p
-pop_answer_of (Refused r p) = refused_pop (number_of r) p
+abbrev pub pop_answer_of : Result Popped RefusedCall → PopAnswer
+pop_answer_of (Ok (Ready r p)) = region_pop r p
+pop_answer_of (Ok (Held p)) = held_pop p
+pop_answer_of (Ok (Empty p)) = empty_pop p
+pop_answer_of (Err e) = refused_pop (number_of e.refusal) e.profile
 
 unfoldable pub pop_answer_by : Verdict → Turn → BandPassActivityProfile → List Float → ℕ → ℕ → ℕ → Bool → PopAnswer
 pop_answer_by (refusal n) t p cells extension least most forced = refused_pop n p

@@ -52,39 +52,17 @@ pub struct ActivityProfileRegion {
     pub peak_pos: u32,
 }
 
-// What a making answers.
+// A call on a profile that is refused: why, and the record as it was given.
 #[derive(Clone, Copy)]
-pub enum Made {
-    Profile(BandPassActivityProfile),
-    Refused(Refusal),
+pub struct RefusedCall {
+    pub refusal: Refusal,
+    pub profile: BandPassActivityProfile,
 }
 
-// The cells that a maker must provide, or the first refusal that applies to the numbers given.
-#[derive(Clone, Copy)]
-pub enum CellsNeeded {
-    Cells(u32),
-    Refused(Refusal),
-}
-
-// Whether an add is granted, or the first refusal that applies to it.
-#[derive(Clone, Copy)]
-pub enum AddVerdict {
-    Granted,
-    Refused(Refusal),
-}
-
-// What an add answers: the record as it is after it, or as it was.
-#[derive(Clone, Copy)]
-pub enum Added {
-    Accepted(BandPassActivityProfile),
-    Refused(Refusal, BandPassActivityProfile),
-}
-
-// What a pop answers, with the record as it is after it.
+// What a pop that is not refused comes to, with the record as it is after it.
 #[derive(Clone, Copy)]
 pub enum Popped {
     Ready(ActivityProfileRegion, BandPassActivityProfile),
     Held(BandPassActivityProfile),
     Empty(BandPassActivityProfile),
-    Refused(Refusal, BandPassActivityProfile),
 }

@@ -6,7 +6,7 @@ use Rattle.std.specs.Float.{binary64, nan}
 use Rattle.std.specs.Float.Ieee.{to_unsigned, sub, lt}
 use Rattle.doubles.specs.Constants.{zero_f}
 use Rattle.genome.specs.declared.GenomePosition.{GenomePosition}
-use Rattle.genome.specs.Refusals.{number_of, Outcome, refused, answered, setting_refusal, word_refusal, depth_refusal}
+use Rattle.genome.specs.Refusals.{Outcome, refused, answered, setting_refusal, word_refusal, depth_refusal}
 use Rattle.genome.specs.Ranges.{is_position}
 use Rattle.genotype_likelihoods.specs.declared.HaplotypeCallerActivityScoringParams.{HaplotypeCallerActivityScoringParams}
 use Rattle.genotype_likelihoods.specs.Settings.{settings_in_range}
@@ -20,8 +20,6 @@ use Rattle.activity_profile.specs.declared.ActivityEvidence.{ActivityEvidence}
 use Rattle.activity_profile.specs.declared.ActivityEvidence.TheVariants.{Plain, HighQualitySoftClips}
 use Rattle.activity_scoring.specs.Mean.{mean_of}
 use Rattle.activity_scoring.specs.declared.Activity.{Activity}
-use Rattle.activity_scoring.specs.declared.Scored.{Scored}
-use Rattle.activity_scoring.specs.declared.Scored.TheVariants.{Score, Refused}
 
 -- ---- the refusals
 
@@ -82,11 +80,6 @@ abbrev pub state_of : ℕ → GenomePosition → List ℕ → HaplotypeCallerAct
 state_of contig p words s = state_with (activity_of words s) contig p words s
 
 -- ---- the answer
-
--- an answer of the code in document 01's terms
-abbrev pub scored_of : Scored → Outcome ActivityProfileState
-scored_of (Score s) = answered s
-scored_of (Refused r) = refused (number_of r)
 
 -- "scoring 1, 4, 3", or the state
 unfoldable pub score_with : ActivityProfileState → GenomePosition → List ℕ → HaplotypeCallerActivityScoringParams → Outcome ActivityProfileState

@@ -4,7 +4,7 @@ use Rattle.std.specs.Prelude.{◌≡◌, ℕ, ◌+◌, Bool, cond, not, ◌||◌
 use Rattle.std.specs.Float.{binary64, nan}
 use Rattle.std.specs.Float.Ieee.{sub}
 use Rattle.genome.specs.declared.GenomePosition.{GenomePosition}
-use Rattle.genome.specs.Refusals.{Outcome, number_of, setting_refusal, buffer_refusal}
+use Rattle.genome.specs.Refusals.{Outcome, setting_refusal, buffer_refusal}
 use Rattle.genotype_likelihoods.specs.declared.HaplotypeCallerActivityScoringParams.{HaplotypeCallerActivityScoringParams}
 use Rattle.genotype_likelihoods.specs.Settings.{settings_in_range}
 use Rattle.contribution_table.specs.Table.{ploidy_of, table_length, filled, likelihoods_by}
@@ -14,8 +14,6 @@ use Rattle.log10_sums.specs.Sums.{max_element_index}
 use Rattle.activity_profile.specs.declared.ActivityProfileState.{ActivityProfileState}
 use Rattle.activity_profile.specs.Verdict.{Verdict, refusal, granted}
 use Rattle.activity_scoring.specs.declared.Activity.{Activity}
-use Rattle.activity_scoring.specs.declared.Filling.{Filling}
-use Rattle.activity_scoring.specs.declared.Filling.TheVariants.{Filled, Refused}
 use Rattle.activity_scoring.specs.Score.{activity_of, state_with, score_with}
 
 -- of rounded likelihoods: the posterior, and the largest less that of the reference genotype
@@ -55,11 +53,6 @@ too_short s n m = nat_lt n (table_length (ploidy_of s)) || nat_lt m (priors_leng
 -- 1 for a setting outside its range, then 2 for a slice that is too short
 unfoldable pub fill_verdict : HaplotypeCallerActivityScoringParams → ℕ → ℕ → Verdict
 fill_verdict s n m = cond (not (settings_in_range s)) (refusal setting_refusal) (cond (too_short s n m) (refusal buffer_refusal) granted)
-
--- an answer of the code in these terms
-abbrev pub filling_of : Filling → Verdict
-filling_of Filled = granted
-filling_of (Refused r) = refusal (number_of r)
 
 -- a refusal writes nothing
 abbrev pub where_granted : Verdict → List Float → List Float → List Float

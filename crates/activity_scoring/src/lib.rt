@@ -6,8 +6,6 @@ mod mean;
 mod score;
 mod tables;
 
-use activity_profile::ActivityProfileState;
-use genome::Refusal;
 pub use mean::hq_soft_clip_running_mean_rcm_path;
 pub use score::{
     MAX_DEPTH, activity_of, are_observations, evidence_of,
@@ -15,21 +13,6 @@ pub use score::{
     haplotype_caller_activity_profile_state_single_sample, is_in_range,
 };
 pub use tables::fill_tables;
-
-// What scoring answers.
-#[derive(Clone, Copy)]
-pub enum Scored {
-    Score(ActivityProfileState),
-    Refused(Refusal),
-}
-
-// What filling the tables answers.
-#[derive(Clone, Copy)]
-pub enum Filling {
-    Filled,
-    // A setting outside its range, or a slice that is too short.
-    Refused(Refusal),
-}
 
 // A mean of clip counts on its way: how many, and their mean.
 #[derive(Clone, Copy)]

@@ -1,10 +1,11 @@
 // The score of a pile.
 ghost use Rattle.std.specs.Prelude.{◌≡◌, ◌+◌, ◌<◌, ◌≤◌, true, length};
-ghost use Rattle.activity_scoring.specs.Score.{in_range, all_observations, evidence_of, scored_of, score_of};
+ghost use Rattle.genome.specs.Refusals.{outcome_of};
+ghost use Rattle.activity_scoring.specs.Score.{in_range, all_observations, evidence_of, score_of};
 ghost use Rattle.activity_scoring.specs.Tables.{from_rounded_by, written_by, rounded_by, activity_by, state_by, score_by};
 
+use crate::Activity;
 use crate::mean::hq_soft_clip_running_mean_rcm_path;
-use crate::{Activity, Scored};
 use activity_profile::{ActivityEvidence, ActivityProfileState};
 use genome::{GenomePosition, Refusal};
 use genotype_likelihoods::HaplotypeCallerActivityScoringParams;
@@ -22,8 +23,8 @@ pub fn haplotype_caller_activity_profile_state_single_sample(
     pos: GenomePosition,
     pile: &[u32],
     params: HaplotypeCallerActivityScoringParams,
-) -> Scored
-    ensures { scored_of result ≡ score_of contig pos pile.now params }
+) -> Result<ActivityProfileState, Refusal>
+    ensures { outcome_of result ≡ score_of contig pos pile.now params }
 {
     let array = [0.0; 1];
     let none = &array[..0];
@@ -40,19 +41,19 @@ pub fn haplotype_caller_activity_profile_state_by_tables(
     params: HaplotypeCallerActivityScoringParams,
     table: &[f64],
     priors: &[f64],
-) -> Scored
-    ensures { scored_of result ≡ score_by table.now priors.now contig pos pile.now params }
+) -> Result<ActivityProfileState, Refusal>
+    ensures { outcome_of result ≡ score_by table.now priors.now contig pos pile.now params }
 {
     if !is_in_range(pos, params) {
-        return Scored::Refused(Refusal::Setting);
+        return Err(Refusal::Setting);
     }
     if pile.len() > MAX_DEPTH {
-        return Scored::Refused(Refusal::Depth);
+        return Err(Refusal::Depth);
     }
     if !are_observations(pile) {
-        return Scored::Refused(Refusal::Word);
+        return Err(Refusal::Word);
     }
-    Scored::Score(state_of(contig, pos, pile, params, table, priors))
+    Ok(state_of(contig, pos, pile, params, table, priors))
 }
 
 // Whether the settings and the position are in their ranges: document 01's refusal 1.

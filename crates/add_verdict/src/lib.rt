@@ -3,10 +3,10 @@
 #![tactic(auto)]
 
 ghost use Rattle.std.specs.Prelude.{◌≡◌, ◌≤◌, ltb};
-ghost use Rattle.activity_profile.specs.Add.{first_locus, highest, needed, broken_add, other_contig, off_contig, no_activity, not_next};
-ghost use Rattle.activity_profile.specs.Add.{add_verdict, add_verdict_of};
+ghost use Rattle.activity_profile.specs.Add.{first_locus, highest, needed, broken_add, other_contig, off_contig, no_activity, not_next, add_verdict};
+ghost use Rattle.activity_profile.specs.Verdict.{verdict_of};
 
-use activity_profile::{ActivityProfileState, AddVerdict, BandPassActivityProfile};
+use activity_profile::{ActivityProfileState, BandPassActivityProfile};
 use genome::Refusal;
 use numbers::{greater, lesser, monus};
 use profile_record::is_broken;
@@ -17,28 +17,28 @@ pub fn add_verdict(
     state: ActivityProfileState,
     kernel: usize,
     cells: usize,
-) -> AddVerdict
-    ensures { add_verdict_of result ≡ add_verdict p cells kernel state }
+) -> Result<(), Refusal>
+    ensures { verdict_of result ≡ add_verdict p cells kernel state }
 {
     if is_broken_add(p, cells, kernel) {
-        return AddVerdict::Refused(Refusal::BrokenProfile);
+        return Err(Refusal::BrokenProfile);
     }
     if is_other_contig(p, state) {
-        return AddVerdict::Refused(Refusal::Contig);
+        return Err(Refusal::Contig);
     }
     if is_off_contig(p, state) {
-        return AddVerdict::Refused(Refusal::OffContig);
+        return Err(Refusal::OffContig);
     }
     if is_no_activity(state) {
-        return AddVerdict::Refused(Refusal::Activity);
+        return Err(Refusal::Activity);
     }
     if is_not_next(p, state) {
-        return AddVerdict::Refused(Refusal::NotNext);
+        return Err(Refusal::NotNext);
     }
     if lacks_cells(p, state, cells) {
-        return AddVerdict::Refused(Refusal::Cells);
+        return Err(Refusal::Cells);
     }
-    AddVerdict::Granted
+    Ok(())
 }
 
 // Refusal 5 of an add: the record is broken, or the kernel is not 2F + 1 long.

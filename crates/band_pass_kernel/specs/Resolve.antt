@@ -2,11 +2,9 @@
 use Rattle.std.specs.Prelude.{ℕ, Bool, cond, not, ◌&&◌, List, ◌++◌, length, drop, ◌==◌, from_bits, nat_le, nat_lt, Float}
 use Rattle.std.specs.Float.{binary64}
 use Rattle.numbers.specs.Ranges.{between, within}
-use Rattle.genome.specs.Refusals.{Outcome, refused, answered, number_of, setting_refusal, buffer_refusal}
+use Rattle.genome.specs.Refusals.{Outcome, refused, answered, setting_refusal, buffer_refusal}
 use Rattle.genome.specs.Ranges.{is_probability}
 use Rattle.band_pass_kernel.specs.declared.BandPassActivityProfileParams.{BandPassActivityProfileParams}
-use Rattle.band_pass_kernel.specs.declared.ResolvedFilter.{ResolvedFilter}
-use Rattle.band_pass_kernel.specs.declared.ResolvedFilter.TheVariants.{FilterSize, Refused}
 use Rattle.band_pass_kernel.specs.Kernel.{band, gaussian_kernel, adaptive_filter_size_of}
 
 -- "propagation distance 0 to 1,000,000"
@@ -53,11 +51,6 @@ filter_size_of s =
 -- the refusals in their order, and the filter size
 unfoldable pub resolution : BandPassActivityProfileParams → ℕ → ℕ → Outcome ℕ
 resolution s n m = cond (not (in_range s)) (refused setting_refusal) (cond (not (has_room s n m)) (refused buffer_refusal) (answered (filter_size_of s)))
-
--- an answer of the code in these terms
-abbrev pub resolution_of : ResolvedFilter → Outcome ℕ
-resolution_of (FilterSize f) = answered f
-resolution_of (Refused r) = refused (number_of r)
 
 -- a kernel written to the front of a buffer: "Other entries keep their bytes"
 abbrev pub written_to : List Float → ℕ → List Float → List Float

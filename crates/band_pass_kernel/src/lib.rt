@@ -6,7 +6,6 @@ mod gaussian;
 mod resolve;
 
 pub use gaussian::{adaptive_filter_size, make_gaussian_kernel, normal_distribution};
-use genome::Refusal;
 pub use resolve::{copy_kernel, kernel_in};
 
 // The settings of a band-pass profile.
@@ -17,11 +16,4 @@ pub struct BandPassActivityProfileParams {
     pub max_filter_size: u32,
     pub sigma: f64,
     pub adaptive_filter_size: bool,
-}
-
-// What resolving the filter answers: the filter size of the kernel that now stands in its buffer, or a refusal.
-#[derive(Clone, Copy)]
-pub enum ResolvedFilter {
-    FilterSize(u32),
-    Refused(Refusal),
 }

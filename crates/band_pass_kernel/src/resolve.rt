@@ -1,12 +1,13 @@
 // The filter size and the kernel of a profile's settings, in the lent buffers.
 ghost use Rattle.std.specs.Prelude.{◌≡◌, ◌≤◌, true, length, take, if◌then◌else◌, nat_eq};
+ghost use Rattle.genome.specs.Refusals.{outcome_of};
 ghost use Rattle.band_pass_kernel.specs.Kernel.{band, gaussian_kernel};
-ghost use Rattle.band_pass_kernel.specs.Resolve.{in_range, has_room, accepted, filter_size_of, resolution_of, resolution};
+ghost use Rattle.band_pass_kernel.specs.Resolve.{in_range, has_room, accepted, filter_size_of, resolution};
 ghost use Rattle.band_pass_kernel.specs.Resolve.{written_to, full_after, narrow_after, copied, copied_length};
 ghost use Rattle.band_pass_kernel.specs.Facts.{FullKernel};
 
+use crate::BandPassActivityProfileParams;
 use crate::gaussian::{adaptive_filter_size, make_gaussian_kernel};
-use crate::{BandPassActivityProfileParams, ResolvedFilter};
 use genome::Refusal;
 
 impl BandPassActivityProfileParams {
@@ -24,19 +25,22 @@ impl BandPassActivityProfileParams {
 
     // Writes the full kernel to `full`, and the kernel to `narrow` where it is a narrower one, and answers its filter size.
     // Refuses a setting outside its range, then a buffer shorter than 2 × max_filter_size + 1; a refusal writes nothing.
-    pub fn resolved_filter_and_kernel(self, full: &mut [f64], narrow: &mut [f64]) -> ResolvedFilter
-        ensures result_value { resolution_of result ≡ resolution self (length full.old) (length narrow.old) }
+    pub fn resolved_filter_and_kernel(
+        self,
+        full: &mut [f64],
+        narrow: &mut [f64],
+    ) -> Result<u32, Refusal>
+        ensures result_value { outcome_of result ≡ resolution self (length full.old) (length narrow.old) }
         ensures full_after { full.new ≡ full_after self full.old (length narrow.old) }
         ensures narrow_after { narrow.new ≡ narrow_after self (length full.old) narrow.old }
     {
         if !self.in_range() {
-            return ResolvedFilter::Refused(Refusal::Setting);
+            return Err(Refusal::Setting);
         }
         if !self.has_room(full.len(), narrow.len()) {
-            return ResolvedFilter::Refused(Refusal::Buffer);
+            return Err(Refusal::Buffer);
         }
-        let filter_size = self.fill(full, narrow);
-        ResolvedFilter::FilterSize(filter_size)
+        Ok(self.fill(full, narrow))
     }
 
     // The kernel that resolving left: the first 2 × filter_size + 1 entries of the buffer that holds it.

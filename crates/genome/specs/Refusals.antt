@@ -1,5 +1,5 @@
 -- 01, Refusals, and those of document 02: the number of each, and what a call that may be refused comes to.
-use Rattle.std.specs.Prelude.{ℕ}
+use Rattle.std.specs.Prelude.{ℕ, Result, Ok, Err}
 use Rattle.genome.specs.declared.Refusal.{Refusal}
 use Rattle.genome.specs.declared.Refusal.TheVariants.{Setting, Buffer, Word, Depth, BrokenProfile, Contig, OffContig, Activity, NotNext, Cells, ZeroSize, Piles}
 
@@ -59,3 +59,8 @@ number_of Piles = piles_refusal
 pub data Outcome (A : Type 0) : Type 0 where
   refused : ℕ → Outcome A
   answered : A → Outcome A
+
+-- a result of the code in these terms
+abbrev pub outcome_of : {A : Type 0} → Result A Refusal → Outcome A
+outcome_of (Ok a) = answered a
+outcome_of (Err r) = refused (number_of r)

@@ -2,12 +2,8 @@
 use Rattle.std.specs.Prelude.{Bool, cond, not, ◌&&◌, List, ℕ, ◌+◌, ◌/◌, ◌%◌, min, eqb, ltb, take, drop}
 use Rattle.std.specs.List.{fold}
 use Rattle.genome.specs.Ranges.{missing_quality}
-use Rattle.genome.specs.Refusals.{Outcome, refused, answered, number_of, word_refusal}
+use Rattle.genome.specs.Refusals.{Outcome, refused, answered, word_refusal}
 use Rattle.hq_soft_clip.specs.declared.Walk.{Walk}
-use Rattle.hq_soft_clip.specs.declared.Walked.{Walked}
-use Rattle.hq_soft_clip.specs.declared.Walked.TheVariants.{To, Refused as WalkRefused}
-use Rattle.hq_soft_clip.specs.declared.SoftClips.{SoftClips}
-use Rattle.hq_soft_clip.specs.declared.SoftClips.TheVariants.{Count, Refused}
 
 -- "length in the high 28 bits, operation in the low 4"
 abbrev pub operation : ℕ → ℕ
@@ -84,15 +80,6 @@ count_of (answered s) = answered s.count
 -- the number of a refusal, or the count
 unfoldable pub clip_count : List ℕ → List ℕ → Outcome ℕ
 clip_count cigar qualities = count_of (fold (after qualities) (answered start) cigar)
-
--- answers of the code in these terms
-abbrev pub clip_count_of : SoftClips → Outcome ℕ
-clip_count_of (Count n) = answered n
-clip_count_of (Refused r) = refused (number_of r)
-
-abbrev pub walked_of : Walked → Outcome Walk
-walked_of (To s) = answered s
-walked_of (WalkRefused r) = refused (number_of r)
 
 -- a walk that stops where the qualities end, of which there are n
 abbrev pub capped : ℕ → Walk → Walk

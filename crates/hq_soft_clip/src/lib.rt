@@ -3,17 +3,10 @@
 #![tactic(auto)]
 
 ghost use Rattle.std.specs.Prelude.{◌≡◌, ◌-◌, ◌≤◌, ◌<◌, min, length};
-ghost use Rattle.hq_soft_clip.specs.SoftClips.{with_base, count_high, passed, clipped, walked, capped, capped_outcome};
-ghost use Rattle.hq_soft_clip.specs.SoftClips.{clip_count, clip_count_of, walked_of};
+ghost use Rattle.genome.specs.Refusals.{outcome_of};
+ghost use Rattle.hq_soft_clip.specs.SoftClips.{with_base, count_high, passed, clipped, walked, capped, capped_outcome, clip_count};
 
 use genome::{MISSING_QUALITY, Refusal};
-
-// What the count answers.
-#[derive(Clone, Copy)]
-pub enum SoftClips {
-    Count(u64),
-    Refused(Refusal),
-}
 
 // A walk along a read: how many of its bases have been passed, no further than there are qualities, and how many of them were clipped with
 // a high quality.
@@ -23,64 +16,56 @@ pub struct Walk {
     pub count: u64,
 }
 
-// What one word does to a walk.
-#[derive(Clone, Copy)]
-pub enum Walked {
-    To(Walk),
-    Refused(Refusal),
-}
-
 // A soft-clipped base counts where its quality is strictly above this.
 const RCM_HQ_SOFT_CLIP_QUAL_THRESHOLD: u8 = 28;
 
 // How many soft-clipped bases have a quality strictly above 28, over CIGAR words as BAM stores them (length in the high
 // 28 bits, operation in the low 4). A missing quality, 255 or none at all, counts as 0. Refuses an operation from 9 on.
 // The cost is bounded by the numbers of words and qualities, whatever lengths the words claim.
-pub fn count_high_quality_soft_clip_bases_rcm(cigar: &[u32], qualities: &[u8]) -> SoftClips
-    ensures { clip_count_of result ≡ clip_count cigar.now qualities.now }
+pub fn count_high_quality_soft_clip_bases_rcm(
+    cigar: &[u32],
+    qualities: &[u8],
+) -> Result<u64, Refusal>
+    ensures { outcome_of result ≡ clip_count cigar.now qualities.now }
 {
     let mut w = Walk { at: 0, count: 0 };
     let mut i = 0;
     while i < cigar.len() {
-        let walked = walk_word(w, cigar[i], qualities);
-        match walked {
-            Walked::To(next) => w = next,
-            Walked::Refused(why) => return SoftClips::Refused(why),
-        }
+        w = walk_word(w, cigar[i], qualities)?;
         i += 1;
     }
-    SoftClips::Count(w.count)
+    Ok(w.count)
 }
 
 // One word, by the SAM specification's table of CIGAR operations: an arm for each of its rows, in its order, below the row's letter, its
 // description and whether it consumes the query.
-fn walk_word(here: Walk, word: u32, qualities: &[u8]) -> Walked
+fn walk_word(here: Walk, word: u32, qualities: &[u8]) -> Result<Walk, Refusal>
     requires { (here.count ≤ here.at) × (here.at ≤ length qualities.now) }
-    ensures { walked_of result ≡ capped_outcome (length qualities.now) (walked qualities.now here word) }
+    ensures { outcome_of result ≡ capped_outcome (length qualities.now) (walked qualities.now here word) }
 {
     let operation = word % 16;
     let past = pass(here, (word / 16) as usize, qualities.len());
     match operation {
         // M: alignment match (can be a sequence match or mismatch); consumes query: yes
-        0 => Walked::To(past),
+        0 => Ok(past),
         // I: insertion to the reference; consumes query: yes
-        1 => Walked::To(past),
+        1 => Ok(past),
         // D: deletion from the reference; consumes query: no
-        2 => Walked::To(here),
+        2 => Ok(here),
         // N: skipped region from the reference; consumes query: no
-        3 => Walked::To(here),
+        3 => Ok(here),
         // S: soft clipping (clipped sequences present in SEQ); consumes query: yes
-        4 => Walked::To(clip(here, past.at, qualities)),
+        4 => Ok(clip(here, past.at, qualities)),
         // H: hard clipping (clipped sequences NOT present in SEQ); consumes query: no
-        5 => Walked::To(here),
+        5 => Ok(here),
         // P: padding (silent deletion from padded reference); consumes query: no
-        6 => Walked::To(here),
+        6 => Ok(here),
         // =: sequence match; consumes query: yes
-        7 => Walked::To(past),
+        7 => Ok(past),
         // X: sequence mismatch; consumes query: yes
-        8 => Walked::To(past),
+        8 => Ok(past),
         // 9 to 15: not in the table, refused 3
-        _ => Walked::Refused(Refusal::Word),
+        _ => Err(Refusal::Word),
     }
 }
 

@@ -1,6 +1,6 @@
 // The score of a set.
 ghost use Rattle.std.specs.Prelude.{◌≡◌, ◌+◌, ◌*◌, ◌≤◌, length};
-ghost use Rattle.activity_scoring.specs.Score.{scored_of};
+ghost use Rattle.genome.specs.Refusals.{outcome_of};
 ghost use Rattle.multi_sample_scoring.specs.Sets.{max_piles, total, set_score_of};
 ghost use Rattle.multi_sample_scoring.specs.Tables.{set_state_by, set_score_by};
 ghost use Rattle.multi_sample_scoring.specs.Passed.{any_by, set_activity_by};
@@ -9,7 +9,7 @@ use crate::MAX_PILES;
 use crate::lengths::{count_left, is_any_too_deep};
 use crate::posterior::with_pile;
 use activity_profile::ActivityProfileState;
-use activity_scoring::{Activity, Scored};
+use activity_scoring::Activity;
 use genome::{GenomePosition, Refusal};
 use genotype_likelihoods::HaplotypeCallerActivityScoringParams;
 
@@ -21,8 +21,8 @@ pub fn haplotype_caller_activity_profile_state_multi_sample(
     words: &[u32],
     lengths: &[u32],
     params: HaplotypeCallerActivityScoringParams,
-) -> Scored
-    ensures { scored_of result ≡ set_score_of contig pos words.now lengths.now params }
+) -> Result<ActivityProfileState, Refusal>
+    ensures { outcome_of result ≡ set_score_of contig pos words.now lengths.now params }
 {
     let array = [0.0; 1];
     let none = &array[..0];
@@ -41,30 +41,30 @@ pub fn haplotype_caller_activity_profile_state_multi_sample_by_tables(
     params: HaplotypeCallerActivityScoringParams,
     table: &[f64],
     priors: &[f64],
-) -> Scored
-    ensures { scored_of result
+) -> Result<ActivityProfileState, Refusal>
+    ensures { outcome_of result
         ≡ set_score_by table.now priors.now contig pos words.now lengths.now params }
 {
     let many = lengths.len() > MAX_PILES;
     let in_range = activity_scoring::is_in_range(pos, params);
     if many {
-        return Scored::Refused(Refusal::Piles);
+        return Err(Refusal::Piles);
     }
     if !in_range {
-        return Scored::Refused(Refusal::Setting);
+        return Err(Refusal::Setting);
     }
     let deep = is_any_too_deep(lengths);
     let whole = total_of(lengths) == words.len();
     if deep {
-        return Scored::Refused(Refusal::Depth);
+        return Err(Refusal::Depth);
     }
     if !whole {
-        return Scored::Refused(Refusal::Word);
+        return Err(Refusal::Word);
     }
     if !activity_scoring::are_observations(words) {
-        return Scored::Refused(Refusal::Word);
+        return Err(Refusal::Word);
     }
-    Scored::Score(set_state(contig, pos, words, lengths, params, table, priors))
+    Ok(set_state(contig, pos, words, lengths, params, table, priors))
 }
 
 // The state of a set that is not refused. The clip mean runs on from pile to pile, so it is that of the run.

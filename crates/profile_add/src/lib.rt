@@ -10,7 +10,7 @@ ghost use Rattle.activity_profile.specs.Add.{add_answer_of, add_answer_by, add_c
 ghost use Rattle.activity_profile.specs.Window.{receiving, renewed, lo, hi, off, held};
 
 use activity_profile::{
-    ActivityEvidence, ActivityProfileState, AddVerdict, Added, BandPassActivityProfile,
+    ActivityEvidence, ActivityProfileState, BandPassActivityProfile, RefusedCall,
 };
 use add_verdict::{add_verdict, cells_after, first_locus, highest_of};
 use numbers::{greater, lesser, monus};
@@ -22,14 +22,16 @@ pub fn add(
     state: ActivityProfileState,
     kernel: &[f64],
     cells: &mut [f64],
-) -> Added
+) -> Result<BandPassActivityProfile, RefusedCall>
     ensures result_value { add_answer_of result ≡ add_answer p cells.old kernel.now state }
     ensures cells_after { cells.new ≡ add_cells p cells.old kernel.now state }
 {
-    let verdict = add_verdict(p, state, kernel.len(), cells.len());
-    match verdict {
-        AddVerdict::Refused(why) => Added::Refused(why, p),
-        AddVerdict::Granted => add_granted(p, state, kernel, cells),
+    match add_verdict(p, state, kernel.len(), cells.len()) {
+        Ok(()) => Ok(add_granted(p, state, kernel, cells)),
+        Err(refusal) => Err(RefusedCall {
+            refusal,
+            profile: p,
+        }),
     }
 }
 
@@ -39,9 +41,9 @@ fn add_granted(
     s: ActivityProfileState,
     kernel: &[f64],
     cells: &mut [f64],
-) -> Added
+) -> BandPassActivityProfile
     requires { add_verdict p (length cells.old) (length kernel.now) s ≡ granted }
-    ensures result_value { add_answer_of result ≡ add_answer_by granted p s }
+    ensures result_value { result ≡ added_profile p s }
     ensures cells_after { cells.new ≡ add_cells_by granted p cells.old kernel.now s }
 {
     let m = super_states(p, s);
@@ -50,7 +52,7 @@ fn add_granted(
     let begin = w.lo;
     let end = w.hi;
     spread(&mut cells[begin..end], kernel, s, m, w.off, w.held);
-    Added::Accepted(next)
+    next
 }
 
 // The number of super states: 1 for plain evidence; for clips, how many offsets d from -n to n, n the smaller of the clip count and D, have

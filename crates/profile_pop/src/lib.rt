@@ -9,7 +9,7 @@ ghost use Rattle.activity_profile.specs.Pop.{pop_answer_of, pop_answer_by, pop_c
 ghost use Rattle.activity_profile.specs.Pop.{qualifies, beats, best_cut_site, or_most, size_of, moved_cell};
 ghost use Rattle.profile_pop.specs.Moving.{shifted_cell, cleared_cell};
 
-use activity_profile::{ActivityProfileRegion, BandPassActivityProfile, Popped};
+use activity_profile::{ActivityProfileRegion, BandPassActivityProfile, Popped, RefusedCall};
 use genome::Refusal;
 use numbers::{greater, lesser, monus};
 use profile_record::is_broken;
@@ -24,7 +24,7 @@ pub fn try_pop_next_ready_region(
     min_region_size: u32,
     max_region_size: u32,
     force_conversion: bool,
-) -> Popped
+) -> Result<Popped, RefusedCall>
     ensures result_value { pop_answer_of result
         ≡ pop_answer p cells.old assembly_region_extension min_region_size max_region_size
         force_conversion }
@@ -32,16 +32,22 @@ pub fn try_pop_next_ready_region(
         ≡ pop_cells p cells.old min_region_size max_region_size force_conversion }
 {
     if is_broken(p, cells.len()) {
-        return Popped::Refused(Refusal::BrokenProfile, p);
+        return Err(RefusedCall {
+            refusal: Refusal::BrokenProfile,
+            profile: p,
+        });
     }
     if (min_region_size == 0) | (max_region_size == 0) {
-        return Popped::Refused(Refusal::ZeroSize, p);
+        return Err(RefusedCall {
+            refusal: Refusal::ZeroSize,
+            profile: p,
+        });
     }
     if p.count == 0 {
-        return Popped::Empty(p);
+        return Ok(Popped::Empty(p));
     }
     if is_held(p, max_region_size, force_conversion) {
-        return Popped::Held(p);
+        return Ok(Popped::Held(p));
     }
     pop_ready(
         p,
@@ -70,7 +76,7 @@ fn pop_ready(
     least: u32,
     most: u32,
     forced: bool,
-) -> Popped
+) -> Result<Popped, RefusedCall>
     requires { (pop_verdict p (length cells.old) least most ≡ granted) × (turn p most forced ≡ ready) }
     ensures result_value { pop_answer_of result ≡ pop_answer_by granted ready p cells.old extension least most forced }
     ensures cells_after { cells.new ≡ pop_cells_by granted ready p cells.old least most forced }
@@ -88,7 +94,7 @@ fn pop_ready(
     let region = region_with(p, active, size, extension, index, cells[index]);
     let next = rest_of(p, size, left);
     move_to_front(cells, size, left, p.count as usize);
-    Popped::Ready(region, next)
+    Ok(Popped::Ready(region, next))
 }
 
 // How many cells a pop looks at: a forced one keeps max(last - start, 0) + 1 at most, so that no locus past the last input is handed out.

@@ -1,8 +1,8 @@
 // The cells that a maker must provide (document 02, U5).
 ghost use Rattle.std.specs.Prelude.{◌≡◌, min};
-ghost use Rattle.activity_profile.specs.Cells.{sizes_in_range, cells_needed, cells_needed_of};
+ghost use Rattle.genome.specs.Refusals.{outcome_of};
+ghost use Rattle.activity_profile.specs.Cells.{sizes_in_range, cells_needed};
 
-use activity_profile::CellsNeeded;
 use band_pass_kernel::BandPassActivityProfileParams;
 use genome::Refusal;
 
@@ -16,20 +16,20 @@ pub fn cells_needed(
     max_prob_propagation_distance: u32,
     filter_size: u32,
     contig_len: u32,
-) -> CellsNeeded
-    ensures { cells_needed_of result
+) -> Result<u32, Refusal>
+    ensures { outcome_of result
         ≡ cells_needed max_region_size max_prob_propagation_distance filter_size contig_len }
 {
     if !are_in_range(max_prob_propagation_distance, filter_size, contig_len) {
-        return CellsNeeded::Refused(Refusal::Setting);
+        return Err(Refusal::Setting);
     }
     if max_region_size == 0 {
-        return CellsNeeded::Refused(Refusal::ZeroSize);
+        return Err(Refusal::ZeroSize);
     }
     let formula = max_region_size as u64
         + max_prob_propagation_distance as u64
         + 2 * (filter_size as u64);
-    CellsNeeded::Cells(at_most(contig_len, formula))
+    Ok(at_most(contig_len, formula))
 }
 
 // Whether distance, filter size and contig length are in their ranges.

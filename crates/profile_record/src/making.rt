@@ -1,9 +1,10 @@
 // Making a profile.
 ghost use Rattle.std.specs.Prelude.{◌≡◌, length};
-ghost use Rattle.activity_profile.specs.Making.{fresh_profile, making, making_of, full_after_making, narrow_after_making};
+ghost use Rattle.genome.specs.Refusals.{outcome_of};
+ghost use Rattle.activity_profile.specs.Making.{fresh_profile, making, full_after_making, narrow_after_making};
 
-use activity_profile::{BandPassActivityProfile, Made};
-use band_pass_kernel::{BandPassActivityProfileParams, ResolvedFilter};
+use activity_profile::BandPassActivityProfile;
+use band_pass_kernel::BandPassActivityProfileParams;
 use genome::Refusal;
 
 // An empty profile of a contig, its kernel written to the lent buffers; `BandPassActivityProfileParams::normalized_kernel` is the
@@ -14,25 +15,17 @@ pub fn new(
     params: BandPassActivityProfileParams,
     full: &mut [f64],
     narrow: &mut [f64],
-) -> Made
-    ensures result_value { making_of result ≡ making contig contig_len params (length full.old) (length narrow.old) }
+) -> Result<BandPassActivityProfile, Refusal>
+    ensures result_value { outcome_of result ≡ making contig contig_len params (length full.old) (length narrow.old) }
     ensures full_after { full.new ≡ full_after_making contig_len params full.old (length narrow.old) }
     ensures narrow_after { narrow.new
         ≡ narrow_after_making contig_len params (length full.old) narrow.old }
 {
     if !numbers::within_u32(1, contig_len, genome::MAX_POSITION) {
-        return Made::Refused(Refusal::Setting);
+        return Err(Refusal::Setting);
     }
-    let resolved = params.resolved_filter_and_kernel(full, narrow);
-    match resolved {
-        ResolvedFilter::FilterSize(filter_size) => Made::Profile(fresh(
-            contig,
-            contig_len,
-            params,
-            filter_size,
-        )),
-        ResolvedFilter::Refused(why) => Made::Refused(why),
-    }
+    let filter_size = params.resolved_filter_and_kernel(full, narrow)?;
+    Ok(fresh(contig, contig_len, params, filter_size))
 }
 
 // The record of a profile that holds no locus.

@@ -9,8 +9,7 @@ ghost use Rattle.region_picker.specs.Part.{Copies, Answers, Adds, Pops};
 
 use crate::{EMPTY, HELD, RECORD, REGION};
 use activity_profile::{
-    ActivityEvidence, ActivityProfileRegion, ActivityProfileState, Added, BandPassActivityProfile,
-    CellsNeeded, Made, Popped,
+    ActivityEvidence, ActivityProfileRegion, ActivityProfileState, BandPassActivityProfile, Popped,
 };
 use band_pass_kernel::BandPassActivityProfileParams;
 use genome::{GenomePosition, Refusal};
@@ -52,11 +51,11 @@ pub fn region_picker_make(
     };
     let made = profile_record::new(contig, contig_len, params, full, narrow);
     match made {
-        Made::Profile(p) => {
+        Ok(p) => {
             *profile = record_of(p);
             0
         }
-        Made::Refused(why) => why.number(),
+        Err(why) => why.number(),
     }
 }
 
@@ -108,11 +107,11 @@ pub fn region_picker_cells_needed(
         contig_len,
     );
     match needed {
-        CellsNeeded::Cells(n) => {
+        Ok(n) => {
             *cells = n;
             0
         }
-        CellsNeeded::Refused(why) => why.number(),
+        Err(why) => why.number(),
     }
 }
 
@@ -148,11 +147,11 @@ pub fn region_picker_add(
     };
     let added = profile_add::add(p, state, kernel, cells);
     match added {
-        Added::Accepted(next) => {
+        Ok(next) => {
             *profile = record_of(next);
             0
         }
-        Added::Refused(why, _) => why.number(),
+        Err(refused) => refused.refusal.number(),
     }
 }
 
@@ -188,21 +187,21 @@ pub fn region_picker_pop(
         forced,
     );
     match popped {
-        Popped::Ready(r, next) => {
+        Ok(Popped::Ready(r, next)) => {
             *region = region_fields(r);
             *peak = r.peak;
             *profile = record_of(next);
             0
         }
-        Popped::Held(next) => {
+        Ok(Popped::Held(next)) => {
             *profile = record_of(next);
             HELD
         }
-        Popped::Empty(next) => {
+        Ok(Popped::Empty(next)) => {
             *profile = record_of(next);
             EMPTY
         }
-        Popped::Refused(why, _) => why.number(),
+        Err(refused) => refused.refusal.number(),
     }
 }
 

@@ -2,17 +2,15 @@
 ghost use Rattle.std.specs.Prelude.{◌≡◌, length};
 ghost use Rattle.contribution_table.specs.Table.{table_length};
 ghost use Rattle.genotype_posterior.specs.Priors.{priors_length};
-ghost use Rattle.activity_scoring.specs.Score.{scored_of};
+ghost use Rattle.genome.specs.Refusals.{outcome_of};
 ghost use Rattle.activity_scoring.specs.Tables.{fill_verdict, table_after, priors_after, score_by};
 ghost use Rattle.multi_sample_scoring.specs.Tables.{set_score_by};
 ghost use Rattle.hq_soft_clip.specs.SoftClips.{clip_count};
 ghost use Rattle.region_picker.specs.Part.{scoring_from, evidence_fields, verdict_number, Answers, Scores};
 
-use activity_profile::ActivityEvidence;
-use activity_scoring::{Filling, Scored};
-use genome::{GenomePosition, Ploidy};
+use activity_profile::{ActivityEvidence, ActivityProfileState};
+use genome::{GenomePosition, Ploidy, Refusal};
 use genotype_likelihoods::HaplotypeCallerActivityScoringParams;
-use hq_soft_clip::SoftClips;
 
 // How many numbers the table of a ploidy has.
 pub fn region_picker_table_length(ploidy: u8) -> usize
@@ -63,8 +61,8 @@ pub fn region_picker_fill_tables(
     );
     let filling = activity_scoring::fill_tables(table, priors, params);
     match filling {
-        Filling::Filled => 0,
-        Filling::Refused(why) => why.number(),
+        Ok(()) => 0,
+        Err(why) => why.number(),
     }
 }
 
@@ -162,18 +160,22 @@ pub fn region_picker_score_set(
 }
 
 // Writes a score's numbers and answers 0, or answers the refusal's number.
-fn write_score(scored: Scored, activity: &mut [f64; 2], evidence: &mut [u32; 2]) -> u32
-    ensures { Scores (scored_of scored)
+fn write_score(
+    scored: Result<ActivityProfileState, Refusal>,
+    activity: &mut [f64; 2],
+    evidence: &mut [u32; 2],
+) -> u32
+    ensures { Scores (outcome_of scored)
         activity.old activity.new evidence.old evidence.new result }
 {
     match scored {
-        Scored::Score(s) => {
+        Ok(s) => {
             *activity = [s.active_prob, s.original_active_prob];
             let e = s.evidence;
             *evidence = evidence_fields(e);
             0
         }
-        Scored::Refused(why) => why.number(),
+        Err(why) => why.number(),
     }
 }
 
@@ -218,10 +220,10 @@ pub fn region_picker_count_clips(cigar: &[u32], qualities: &[u8], count: &mut u6
 {
     let counted = hq_soft_clip::count_high_quality_soft_clip_bases_rcm(cigar, qualities);
     match counted {
-        SoftClips::Count(n) => {
+        Ok(n) => {
             *count = n;
             0
         }
-        SoftClips::Refused(why) => why.number(),
+        Err(why) => why.number(),
     }
 }

@@ -2,7 +2,6 @@
 ghost use Rattle.std.specs.Prelude.{◌≡◌, length};
 ghost use Rattle.contribution_table.specs.Table.{table_length};
 ghost use Rattle.genotype_posterior.specs.Priors.{priors_length};
-ghost use Rattle.activity_scoring.specs.Score.{scored_of};
 ghost use Rattle.activity_scoring.specs.Tables.{fill_verdict, table_after, priors_after, score_by};
 ghost use Rattle.multi_sample_scoring.specs.Tables.{set_score_by};
 ghost use Rattle.hq_soft_clip.specs.SoftClips.{clip_count};

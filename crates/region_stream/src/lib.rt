@@ -12,12 +12,11 @@ ghost use Rattle.region_program.specs.Program.{next, Scoring};
 ghost use Rattle.region_program.specs.Stream.{new_stream, stream_of, Stepped, EndsPile};
 ghost use Rattle.region_program.specs.Tables.{table_score};
 
-use activity_profile::{BandPassActivityProfile, Made, Popped};
+use activity_profile::{BandPassActivityProfile, Popped};
 use genome::Refusal;
 use pileup_words::StreamEvent;
 use region_program::{CELLS, KERNEL, PILE, PRIORS, Phase, RegionStream, Step, TABLE};
-use stream_profile::PileAdded;
-use stream_settings::{Setting, StreamSettings};
+use stream_settings::StreamSettings;
 
 // A stream before its first event.
 pub fn new_stream() -> RegionStream
@@ -104,8 +103,8 @@ fn open_first(s: RegionStream, position: u32, kernel: &mut [f64; KERNEL]) -> Ste
     let settings = s.settings;
     let made = stream_profile::make_profile(settings, kernel);
     match made {
-        Made::Profile(p) => Step::Next(opened(s, p, position)),
-        Made::Refused(why) => Step::Refused(why, s.index, s),
+        Ok(p) => Step::Next(opened(s, p, position)),
+        Err(why) => Step::Refused(why, s.index, s),
     }
 }
 
@@ -163,13 +162,13 @@ fn set_field(s: RegionStream, field: u32, value: u32) -> Step
     let settings = s.settings;
     let setting = settings.with_field(field, value);
     match setting {
-        Setting::Set(t) => {
+        Ok(t) => {
             let mut u = s;
             u.settings = t;
             u.index = std::num::wrapping_add_u64(s.index, 1);
             Step::Next(u)
         }
-        Setting::Refused(why) => Step::Refused(why, s.index, s),
+        Err(why) => Step::Refused(why, s.index, s),
     }
 }
 
@@ -211,10 +210,10 @@ fn pop(s: RegionStream, value: u32, cells: &mut [f64; CELLS]) -> Step
         value == 1,
     );
     match popped {
-        Popped::Ready(region, q) => Step::Line(region, with_record(s, q)),
-        Popped::Held(q) => Step::Next(advanced(s, q)),
-        Popped::Empty(q) => Step::Next(advanced(s, q)),
-        Popped::Refused(why, _) => Step::Refused(why, s.index, s),
+        Ok(Popped::Ready(region, q)) => Step::Line(region, with_record(s, q)),
+        Ok(Popped::Held(q)) => Step::Next(advanced(s, q)),
+        Ok(Popped::Empty(q)) => Step::Next(advanced(s, q)),
+        Err(refused) => Step::Refused(refused.refusal, s.index, s),
     }
 }
 
@@ -317,8 +316,8 @@ fn end_pile(
     let part = band_pass_kernel::kernel_in(kernel, p.filter_size);
     let added = stream_profile::add_pile(p, locus, words, part, cells, table, priors);
     match added {
-        PileAdded::Profile(q) => Step::Again(closed(s, q)),
-        PileAdded::Refused(why) => Step::Refused(why, locus_index, s),
+        Ok(q) => Step::Again(closed(s, q)),
+        Err(why) => Step::Refused(why, locus_index, s),
     }
 }
 

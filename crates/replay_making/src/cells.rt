@@ -1,5 +1,4 @@
 // Answers of the number of cells that a maker must provide.
-use activity_profile::CellsNeeded;
 use answer_list::{Compared, number_at};
 
 // max region size, distance, filter size, contig length; the refusal's number or 0; where 0, the cells.
@@ -11,11 +10,11 @@ pub(crate) fn cells_needed(words: &[u64]) -> bool {
         number_at(words, 3),
     );
     match needed {
-        CellsNeeded::Cells(n) => Compared::from(4)
+        Ok(n) => Compared::from(4)
             .word(words, 0)
             .word(words, n as u64)
             .whole(words),
-        CellsNeeded::Refused(why) => Compared::from(4)
+        Err(why) => Compared::from(4)
             .word(words, why.number() as u64)
             .whole(words),
     }

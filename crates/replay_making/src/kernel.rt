@@ -2,9 +2,10 @@
 ghost use Rattle.std.specs.Prelude.{◌≡◌};
 ghost use Rattle.replay_making.specs.Params.{params_of};
 
-use activity_profile::{BandPassActivityProfile, Made};
+use activity_profile::BandPassActivityProfile;
 use answer_list::{Compared, double_at, doubles_from, filled, length_at, number_at, word_at};
 use band_pass_kernel::BandPassActivityProfileParams;
+use genome::Refusal;
 
 // mean, sd, x; the density.
 pub(crate) fn normal_distribution(words: &[u64]) -> bool {
@@ -61,14 +62,14 @@ fn making_in(words: &[u64], full: &mut [f64], narrow: &mut [f64]) -> bool {
 
 fn compared<'a>(
     words: &[u64],
-    made: Made,
+    made: Result<BandPassActivityProfile, Refusal>,
     params: BandPassActivityProfileParams,
     full: &'a [f64],
     narrow: &'a [f64],
 ) -> Compared {
     match made {
-        Made::Profile(p) => profile(words, p, params, full, narrow),
-        Made::Refused(why) => Compared::from(10).word(words, why.number() as u64),
+        Ok(p) => profile(words, p, params, full, narrow),
+        Err(why) => Compared::from(10).word(words, why.number() as u64),
     }
 }
 

@@ -1,7 +1,7 @@
 // Single adds and pops, on any record and cells.
 use activity_profile::{
-    ActivityEvidence, ActivityProfileRegion, ActivityProfileState, Added, BandPassActivityProfile,
-    Popped,
+    ActivityEvidence, ActivityProfileRegion, ActivityProfileState, BandPassActivityProfile, Popped,
+    RefusedCall,
 };
 use answer_list::{Compared, double_at, doubles_from, length_at, number_at, word_at};
 use genome::GenomePosition;
@@ -24,18 +24,24 @@ fn add_in(words: &[u64], kernel: &[f64], cells: &mut [f64], results: usize) -> b
 }
 
 // The number of an add's refusal, or 0.
-pub(crate) fn added_number(words: &[u64], c: Compared, added: Added) -> Compared {
+pub(crate) fn added_number(
+    words: &[u64],
+    c: Compared,
+    added: Result<BandPassActivityProfile, RefusedCall>,
+) -> Compared {
     match added {
-        Added::Accepted(_) => c.word(words, 0),
-        Added::Refused(why, _) => c.word(words, why.number() as u64),
+        Ok(_) => c.word(words, 0),
+        Err(refused) => c.word(words, refused.refusal.number() as u64),
     }
 }
 
 // The record that an add hands back.
-pub(crate) fn added_record(added: Added) -> BandPassActivityProfile {
+pub(crate) fn added_record(
+    added: Result<BandPassActivityProfile, RefusedCall>,
+) -> BandPassActivityProfile {
     match added {
-        Added::Accepted(p) => p,
-        Added::Refused(_, p) => p,
+        Ok(p) => p,
+        Err(refused) => refused.profile,
     }
 }
 
@@ -60,7 +66,7 @@ pub(crate) fn pop_at(
     p: BandPassActivityProfile,
     at: usize,
     cells: &mut [f64],
-) -> Popped {
+) -> Result<Popped, RefusedCall> {
     profile_pop::try_pop_next_ready_region(
         p,
         cells,
@@ -72,12 +78,14 @@ pub(crate) fn pop_at(
 }
 
 // The answer: 0, the region and its peak; 1, held; 2, empty; 3 and the refusal's number.
-pub(crate) fn answer(words: &[u64], c: Compared, popped: Popped) -> Compared {
+pub(crate) fn answer(words: &[u64], c: Compared, popped: Result<Popped, RefusedCall>) -> Compared {
     match popped {
-        Popped::Ready(r, _) => peak(words, region(words, c.word(words, 0), r), r),
-        Popped::Held(_) => c.word(words, 1),
-        Popped::Empty(_) => c.word(words, 2),
-        Popped::Refused(why, _) => c.word(words, 3).word(words, why.number() as u64),
+        Ok(Popped::Ready(r, _)) => peak(words, region(words, c.word(words, 0), r), r),
+        Ok(Popped::Held(_)) => c.word(words, 1),
+        Ok(Popped::Empty(_)) => c.word(words, 2),
+        Err(refused) => c
+            .word(words, 3)
+            .word(words, refused.refusal.number() as u64),
     }
 }
 
@@ -101,12 +109,12 @@ fn flag(b: bool) -> u64 {
 }
 
 // The record that a pop hands back.
-pub(crate) fn popped_record(popped: Popped) -> BandPassActivityProfile {
+pub(crate) fn popped_record(popped: Result<Popped, RefusedCall>) -> BandPassActivityProfile {
     match popped {
-        Popped::Ready(_, p) => p,
-        Popped::Held(p) => p,
-        Popped::Empty(p) => p,
-        Popped::Refused(_, p) => p,
+        Ok(Popped::Ready(_, p)) => p,
+        Ok(Popped::Held(p)) => p,
+        Ok(Popped::Empty(p)) => p,
+        Err(refused) => refused.profile,
     }
 }
 

@@ -1,7 +1,7 @@
 // Runs: a making, and a list of calls on the profile, each of which gets the record and the cells as the call before left them.
 use crate::call;
 use crate::call::plus;
-use activity_profile::{BandPassActivityProfile, Made};
+use activity_profile::BandPassActivityProfile;
 use answer_list::{Compared, number_at, word_at};
 
 // How far a run has come.
@@ -29,8 +29,8 @@ fn run_in(words: &[u64], full: &mut [f64], narrow: &mut [f64], cells: &mut [f64]
         narrow,
     );
     match made {
-        Made::Profile(p) => run_profile(words, p, full, narrow, cells),
-        Made::Refused(_) => false,
+        Ok(p) => run_profile(words, p, full, narrow, cells),
+        Err(_) => false,
     }
 }
 

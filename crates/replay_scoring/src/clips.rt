@@ -1,6 +1,5 @@
 // Soft-clip counts.
 use answer_list::{Compared, length_at, number_at, word_at};
-use hq_soft_clip::SoftClips;
 
 // k, cigar[k], n, qualities[n]; the refusal's number or 0, and where 0 the count.
 pub(crate) fn clip_count(words: &[u64]) -> bool {
@@ -11,8 +10,8 @@ pub(crate) fn clip_count(words: &[u64]) -> bool {
     let found = hq_soft_clip::count_high_quality_soft_clip_bases_rcm(&cigar[..k], &qualities[..n]);
     let c = Compared::from(2 + k + n);
     match found {
-        SoftClips::Count(count) => c.word(words, 0).word(words, count).whole(words),
-        SoftClips::Refused(why) => c.word(words, why.number() as u64).whole(words),
+        Ok(count) => c.word(words, 0).word(words, count).whole(words),
+        Err(why) => c.word(words, why.number() as u64).whole(words),
     }
 }
 

@@ -3,9 +3,8 @@ ghost use Rattle.std.specs.Prelude.{◌≤◌};
 
 use crate::clips::numbers_from;
 use activity_profile::{ActivityEvidence, ActivityProfileState};
-use activity_scoring::Scored;
 use answer_list::{Compared, double_at, length_at, number_at, word_at};
-use genome::{GenomePosition, Ploidy};
+use genome::{GenomePosition, Ploidy, Refusal};
 use genotype_likelihoods::HaplotypeCallerActivityScoringParams;
 
 // contig, position, min base quality, ploidy, heterozygosity, deviation, deletion quality, alt multiplier, flow, depth,
@@ -50,11 +49,11 @@ fn score_set_in(words: &[u64], run: &[u32], lengths: &[u32], results: usize) -> 
 }
 
 // Whether the results from a word on are those of a score.
-fn scored_at(words: &[u64], results: usize, scored: Scored) -> bool {
+fn scored_at(words: &[u64], results: usize, scored: Result<ActivityProfileState, Refusal>) -> bool {
     let c = Compared::from(results);
     match scored {
-        Scored::Score(s) => state(words, c.word(words, 0), s).whole(words),
-        Scored::Refused(why) => c.word(words, why.number() as u64).whole(words),
+        Ok(s) => state(words, c.word(words, 0), s).whole(words),
+        Err(why) => c.word(words, why.number() as u64).whole(words),
     }
 }
 

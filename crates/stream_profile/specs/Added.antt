@@ -1,13 +1,7 @@
 -- What scoring and adding a pile comes to, in the terms of the program's definition.
-use Rattle.genome.specs.Refusals.{Outcome, refused, answered, number_of, activity_refusal}
+use Rattle.genome.specs.Refusals.{Outcome, refused, answered, activity_refusal}
 use Rattle.activity_profile.specs.declared.BandPassActivityProfile.{BandPassActivityProfile}
 use Rattle.activity_profile.specs.declared.ActivityProfileState.{ActivityProfileState}
-use Rattle.stream_profile.specs.declared.PileAdded.{PileAdded}
-use Rattle.stream_profile.specs.declared.PileAdded.TheVariants.{Profile, Refused}
-
-abbrev pub pile_added_of : PileAdded → Outcome BandPassActivityProfile
-pile_added_of (Profile p) = answered p
-pile_added_of (Refused r) = refused (number_of r)
 
 -- the refusal of a score that is refused; of a score, which has none, 8
 abbrev pub refused_score : Outcome ActivityProfileState → Outcome BandPassActivityProfile

@@ -3,26 +3,16 @@
 #![tactic(auto)]
 
 ghost use Rattle.std.specs.Prelude.{◌≡◌};
-ghost use Rattle.activity_profile.specs.Making.{making_of};
-ghost use Rattle.activity_scoring.specs.Score.{scored_of};
+ghost use Rattle.genome.specs.Refusals.{outcome_of};
 ghost use Rattle.region_program.specs.Program.{profile_made, score_added, score_cells};
 ghost use Rattle.region_program.specs.Stream.{kernel_made};
 ghost use Rattle.region_program.specs.Tables.{table_score, table_filled, list_filled};
-ghost use Rattle.stream_profile.specs.Added.{pile_added_of, refused_score};
 
-use activity_profile::{Added, BandPassActivityProfile, Made};
-use activity_scoring::Scored;
+use activity_profile::BandPassActivityProfile;
 use genome::{GenomePosition, Refusal};
 use genotype_likelihoods::HaplotypeCallerActivityScoringParams;
 use region_program::{CONTIG, KERNEL, PRIORS, TABLE};
 use stream_settings::StreamSettings;
-
-// What scoring and adding a pile comes to.
-#[derive(Clone, Copy)]
-pub enum PileAdded {
-    Profile(BandPassActivityProfile),
-    Refused(Refusal),
-}
 
 // Fills the tables that piles are scored by. To be called once, before the first event.
 pub fn fill_tables(table: &mut [f64; TABLE], priors: &mut [f64; PRIORS])
@@ -40,20 +30,20 @@ pub fn fill_tables(table: &mut [f64; TABLE], priors: &mut [f64; PRIORS])
 }
 
 // Makes the profile that the settings ask for, its kernel at the front of the lent slice. A refusal writes nothing.
-pub fn make_profile(settings: StreamSettings, kernel: &mut [f64; KERNEL]) -> Made
-    ensures result_value { making_of result ≡ profile_made settings }
+pub fn make_profile(
+    settings: StreamSettings,
+    kernel: &mut [f64; KERNEL],
+) -> Result<BandPassActivityProfile, Refusal>
+    ensures result_value { outcome_of result ≡ profile_made settings }
     ensures kernel_after { kernel.new ≡ kernel_made settings (profile_made settings) kernel.old }
 {
     let mut full = [0.0f64; KERNEL];
     let mut narrow = [0.0f64; KERNEL];
     let params = settings.params();
-    let made = profile_record::new(CONTIG, settings.contig_len, params, &mut full, &mut narrow);
-    let Made::Profile(p) = made else {
-        return made;
-    };
+    let p = profile_record::new(CONTIG, settings.contig_len, params, &mut full, &mut narrow)?;
     let part = params.normalized_kernel(p.filter_size, &full, &narrow);
     band_pass_kernel::copy_kernel(kernel, part);
-    made
+    Ok(p)
 }
 
 // Scores a pile and adds its locus. A refusal leaves the cells as they were.
@@ -65,15 +55,15 @@ pub fn add_pile(
     cells: &mut [f64],
     table: &[f64],
     priors: &[f64],
-) -> PileAdded
-    ensures result_value { pile_added_of result
+) -> Result<BandPassActivityProfile, Refusal>
+    ensures result_value { outcome_of result
         ≡ score_added p cells.old kernel.now
         (table_score table.now priors.now locus words.now) }
     ensures cells_after { cells.new
         ≡ score_cells p cells.old kernel.now
         (table_score table.now priors.now locus words.now) }
 {
-    let scored = activity_scoring::haplotype_caller_activity_profile_state_by_tables(
+    let state = activity_scoring::haplotype_caller_activity_profile_state_by_tables(
         CONTIG,
         GenomePosition(locus),
         words,
@@ -92,8 +82,8 @@ pub fn add_pile(
 }
 
 // The refusal of a score that is refused. A score has none; of one the answer would be refusal 8.
-fn refused_score(scored: Scored) -> PileAdded
-    ensures { pile_added_of result ≡ refused_score (scored_of scored) }
+fn refused_score(scored: Scored) -> Result<BandPassActivityProfile, Refusal>
+    ensures { outcome_of result ≡ refused_score (scored_of scored) }
 {
     match scored {
         Scored::Score(_) => PileAdded::Refused(Refusal::Activity),

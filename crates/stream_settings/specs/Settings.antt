@@ -3,13 +3,11 @@ use Rattle.std.specs.Prelude.{true, cond, ℕ, eqb}
 use Rattle.std.specs.Float.{binary64}
 use Rattle.std.specs.Float.Ieee.{of_bits}
 use Rattle.numbers.specs.Ranges.{between}
-use Rattle.genome.specs.Refusals.{Outcome, refused, answered, number_of, setting_refusal, word_refusal}
+use Rattle.genome.specs.Refusals.{Outcome, refused, answered, setting_refusal, word_refusal}
 use Rattle.genome.specs.Ranges.{max_position}
 use Rattle.band_pass_kernel.specs.declared.BandPassActivityProfileParams.{BandPassActivityProfileParams}
 use Rattle.band_pass_kernel.specs.Resolve.{max_distance, max_filter}
 use Rattle.stream_settings.specs.declared.StreamSettings.{StreamSettings}
-use Rattle.stream_settings.specs.declared.Setting.{Setting}
-use Rattle.stream_settings.specs.declared.Setting.TheVariants.{Set, Refused}
 
 abbrev pub settings : ℕ → ℕ → ℕ → ℕ → ℕ → ℕ → StreamSettings
 settings most least extension distance filter length = record {
@@ -55,8 +53,3 @@ with_field s field v =
     (cond (eqb field 5) (ranged_of (settings most least extension distance v length) 0 v max_filter)
     (cond (eqb field 6) (ranged_of (settings most least extension distance filter v) 1 v max_position)
     (refused word_refusal))))))
-
--- an answer of the code in these terms
-abbrev pub setting_of : Setting → Outcome StreamSettings
-setting_of (Set s) = answered s
-setting_of (Refused r) = refused (number_of r)

@@ -3,8 +3,6 @@
 
 mod settings;
 
-use genome::Refusal;
-
 // What kind 3 words set.
 #[derive(Clone, Copy)]
 pub struct StreamSettings {
@@ -14,11 +12,4 @@ pub struct StreamSettings {
     pub max_prob_propagation_distance: u32,
     pub max_filter_size: u32,
     pub contig_len: u32,
-}
-
-// What a setting's word comes to.
-#[derive(Clone, Copy)]
-pub enum Setting {
-    Set(StreamSettings),
-    Refused(Refusal),
 }

@@ -1,8 +1,9 @@
 // The settings of a stream: their defaults, and the fields that change them.
 ghost use Rattle.std.specs.Prelude.{◌≡◌};
-ghost use Rattle.stream_settings.specs.Settings.{defaults, params_of, ranged_of, with_field, setting_of};
+ghost use Rattle.genome.specs.Refusals.{outcome_of};
+ghost use Rattle.stream_settings.specs.Settings.{defaults, params_of, ranged_of, with_field};
 
-use crate::{Setting, StreamSettings};
+use crate::StreamSettings;
 use band_pass_kernel::BandPassActivityProfileParams;
 use genome::Refusal;
 
@@ -51,21 +52,21 @@ impl StreamSettings {
     }
 
     // The settings with another value in a field. Refuses a value outside its range, and a field that there is not.
-    pub fn with_field(self, field: u32, value: u32) -> Setting
-        ensures { setting_of result ≡ with_field self field value }
+    pub fn with_field(self, field: u32, value: u32) -> Result<StreamSettings, Refusal>
+        ensures { outcome_of result ≡ with_field self field value }
     {
         let mut next = self;
         if field == 1 {
             next.max_region_size = value;
-            return Setting::Set(next);
+            return Ok(next);
         }
         if field == 2 {
             next.min_region_size = value;
-            return Setting::Set(next);
+            return Ok(next);
         }
         if field == 3 {
             next.assembly_region_extension = value;
-            return Setting::Set(next);
+            return Ok(next);
         }
         if field == 4 {
             next.max_prob_propagation_distance = value;
@@ -85,16 +86,21 @@ impl StreamSettings {
             next.contig_len = value;
             return ranged(next, 1, value, genome::MAX_POSITION);
         }
-        Setting::Refused(Refusal::Word)
+        Err(Refusal::Word)
     }
 }
 
 // The settings, where the value is in low to high.
-fn ranged(settings: StreamSettings, low: u32, value: u32, high: u32) -> Setting
-    ensures { setting_of result ≡ ranged_of settings low value high }
+fn ranged(
+    settings: StreamSettings,
+    low: u32,
+    value: u32,
+    high: u32,
+) -> Result<StreamSettings, Refusal>
+    ensures { outcome_of result ≡ ranged_of settings low value high }
 {
     if numbers::within_u32(low, value, high) {
-        return Setting::Set(settings);
+        return Ok(settings);
     }
-    Setting::Refused(Refusal::Setting)
+    Err(Refusal::Setting)
 }
