@@ -70,23 +70,6 @@ pub fn add_pile(
         HaplotypeCallerActivityScoringParams::default(),
         table,
         priors,
-    );
-    let Scored::Score(state) = scored else {
-        return refused_score(scored);
-    };
-    let added = profile_add::add(p, state, kernel, cells);
-    match added {
-        Added::Accepted(next) => PileAdded::Profile(next),
-        Added::Refused(why, _) => PileAdded::Refused(why),
-    }
-}
-
-// The refusal of a score that is refused. A score has none; of one the answer would be refusal 8.
-fn refused_score(scored: Scored) -> Result<BandPassActivityProfile, Refusal>
-    ensures { outcome_of result ≡ refused_score (scored_of scored) }
-{
-    match scored {
-        Scored::Score(_) => PileAdded::Refused(Refusal::Activity),
-        Scored::Refused(why) => PileAdded::Refused(why),
-    }
+    )?;
+    profile_add::add(p, state, kernel, cells).map_err(|refused| refused.refusal)
 }
