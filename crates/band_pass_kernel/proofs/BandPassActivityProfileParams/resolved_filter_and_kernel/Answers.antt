@@ -18,12 +18,12 @@ pub returns-then-not-has_room : goal.returns-then-not-has_room
 unfolding resolution full_after narrow_after accepted
 returns-then-not-has_room c = simp (in-range-is (goal.at.returns-then-not-has_room c).Else-not-in_range, ← c.has_room.ensures, c.if-not-has_room.true) record { result_value = refl; full_after = refl; narrow_after = refl }
 
-pub fill-filter_size-requires : goal.fill-filter_size-requires
+pub fill-requires : goal.fill-requires
 unfolding accepted
-fill-filter_size-requires c =
-    simp (in-range-is (goal.at.fill-filter_size-requires c).Else-not-in_range, has-room-is (goal.at.fill-filter_size-requires c).Else-not-has_room)
+fill-requires c =
+    simp (in-range-is (goal.at.fill-requires c).Else-not-in_range, has-room-is (goal.at.fill-requires c).Else-not-has_room)
 
 pub returns : goal.returns
 unfolding resolution
 returns c =
-    simp (in-range-is (goal.at.returns c).Else-not-in_range, has-room-is (goal.at.returns c).Else-not-has_room, c.fill-filter_size.ensures.value, c.fill-filter_size.ensures.full_after, c.fill-filter_size.ensures.narrow_after) record { result_value = refl; full_after = refl; narrow_after = refl }
+    simp (in-range-is (goal.at.returns c).Else-not-in_range, has-room-is (goal.at.returns c).Else-not-has_room, c.fill.ensures.value, c.fill.ensures.full_after, c.fill.ensures.narrow_after) record { result_value = refl; full_after = refl; narrow_after = refl }
