@@ -1,5 +1,5 @@
 -- 01, Refusals: the first that applies, in document 01's order, as a chain `cond test (refusal 5) (..)`.
-use Rattle.std.specs.Prelude.{ℕ, Unit, Result, Ok, Err}
+use Rattle.std.specs.Prelude.{ℕ, Result, Ok, Err}
 use Rattle.genome.specs.declared.Refusal.{Refusal}
 use Rattle.genome.specs.Refusals.{number_of}
 
