@@ -6,9 +6,5 @@ ghost use Rattle.std.specs.Float.{binary64};
 pub fn double_of(bits: u64) -> f64
     ensures { result ≡ from_bits binary64 bits }
 {
-    let magnitude = bits % 0x8000_0000_0000_0000;
-    if magnitude <= 0x7ff0_0000_0000_0000 {
-        return f64::from_bits(bits);
-    }
-    0.0 / 0.0
+    std::num::f64_from_bits_with_nan(bits)
 }

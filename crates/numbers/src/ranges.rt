@@ -6,7 +6,7 @@ ghost use Rattle.numbers.specs.Ranges.{between, within};
 pub fn within_u32(low: u32, n: u32, high: u32) -> bool
     ensures { result ≡ between low n high }
 {
-    (low <= n) & (n <= high)
+    (low..=high).contains(&n)
 }
 
 // Whether x is in low to high. A NaN is in no range.

@@ -1,21 +1,21 @@
-// Whole numbers of 64 bits.
+// Whole numbers of 64 bits, by the names that the documents' formulas have for them.
 ghost use Rattle.std.specs.Prelude.{◌≡◌, ◌-◌, min, max};
 
 // a - b, and 0 where b is larger.
 pub fn monus(a: u64, b: u64) -> u64
     ensures { result ≡ a - b }
 {
-    if b < a { a - b } else { 0 }
+    a.saturating_sub(b)
 }
 
 pub fn lesser(a: u64, b: u64) -> u64
     ensures { result ≡ min a b }
 {
-    if a < b { a } else { b }
+    a.min(b)
 }
 
 pub fn greater(a: u64, b: u64) -> u64
     ensures { result ≡ max a b }
 {
-    if a < b { b } else { a }
+    a.max(b)
 }
