@@ -17,6 +17,7 @@ use numbers::{greater, lesser, monus};
 
 // Adds the next locus to the profile, and what it spreads to the lent cells. The kernel is the one that the profile was made with, 2F + 1
 // long. Each refusal, in document 01's order, leaves the cells as they were.
+#[tactic(auto, unfolding(activity_profile::specs::Add::add_answer, activity_profile::specs::Add::add_cells, activity_profile::specs::Add::add_answer_by, activity_profile::specs::Add::add_cells_by))]
 pub fn add(
     p: BandPassActivityProfile,
     state: ActivityProfileState,
