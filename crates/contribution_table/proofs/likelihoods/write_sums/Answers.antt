@@ -35,5 +35,7 @@ shape_of-gl c = c.loop-i.invariant.1
 pub returns : goal.returns
 returns c =
     let at = c in
-    let n : at.loop-i.i ≡ length at.args.gl.now = omega arith in
-    record { value = λ h. at.loop-i.invariant.4 (omega (arith, n, h)); gl_after = at.loop-i.invariant.2 ∙ up_to_all (fixed (sum_at _ _ _)) _ _ n ∙ each-fixed (sum_at _ _ _) _ }
+    let a = at.args in
+    let n : at.loop-i.i ≡ length a.gl.now = omega arith in
+    let sum = sum_at a.rows.now a.params a.pile.now in
+    record { value = λ h. at.loop-i.invariant.4 (omega (arith, n, h)); gl_after = at.loop-i.invariant.2 ∙ up_to_all (fixed sum) at.loop-i.i a.gl.now n ∙ each-fixed sum a.gl.now }
