@@ -1,6 +1,5 @@
 -- 02, U3: words that are skipped settle nothing, wherever they stand. Assumes nothing.
 use Rattle.std.specs.Prelude.{◌≡◌, ℕ, suc, ◌+◌, ◌-◌, ◌<◌, ◌≤◌, Bool, true, false, cond, not, List, [], ◌∷◌, length, replicate, pos, nat_lt, slice_index, refl, Float}
-use Rattle.std.specs.List.{fold}
 use Rattle.std.proofs.Common.{sym, ap, ◌∙◌, le_trans, add-one, arith, leb-true, ltb-false, le-ltb, ne_eqb}
 use Rattle.std.specs.Float.{binary64}
 use Rattle.std.specs.Float.Ieee.{of_bits, of_int, round, sum, add, sub, mul, neg, lt}

@@ -27,3 +27,10 @@ pub struct Activity {
     pub probability: f64,
     pub original: f64,
 }
+
+// The tables that scoring reads, of any length and content.
+#[derive(Clone, Copy)]
+pub struct ScoringTables<'a> {
+    pub contributions: &'a [f64],
+    pub priors: &'a [f64],
+}

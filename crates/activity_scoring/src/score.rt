@@ -4,8 +4,8 @@ ghost use Rattle.genome.specs.Refusals.{outcome_of};
 ghost use Rattle.activity_scoring.specs.Score.{in_range, all_observations, evidence_of, score_of};
 ghost use Rattle.activity_scoring.specs.Tables.{from_rounded_by, written_by, rounded_by, activity_by, state_by, score_by};
 
-use crate::Activity;
 use crate::mean::hq_soft_clip_running_mean_rcm_path;
+use crate::{Activity, ScoringTables};
 use activity_profile::{ActivityEvidence, ActivityProfileState};
 use genome::{GenomePosition, Refusal};
 use genotype_likelihoods::HaplotypeCallerActivityScoringParams;
@@ -27,8 +27,11 @@ pub fn haplotype_caller_activity_profile_state_single_sample(
     ensures { outcome_of result ≡ score_of contig pos pile.now params }
 {
     let array = [0.0; 1];
-    let none = &array[..0];
-    haplotype_caller_activity_profile_state_by_tables(contig, pos, pile, params, none, none)
+    let none = ScoringTables {
+        contributions: &array[..0],
+        priors: &array[..0],
+    };
+    haplotype_caller_activity_profile_state_by_tables(contig, pos, pile, params, none)
 }
 
 // The same score from tables that `fill_tables` filled once. Each carries the settings that it was filled for; one that
@@ -39,10 +42,9 @@ pub fn haplotype_caller_activity_profile_state_by_tables(
     pos: GenomePosition,
     pile: &[u32],
     params: HaplotypeCallerActivityScoringParams,
-    table: &[f64],
-    priors: &[f64],
+    tables: ScoringTables,
 ) -> Result<ActivityProfileState, Refusal>
-    ensures { outcome_of result ≡ score_by table.now priors.now contig pos pile.now params }
+    ensures { outcome_of result ≡ score_by tables.entry.contributions.now tables.entry.priors.now contig pos pile.now params }
 {
     if !is_in_range(pos, params) {
         return Err(Refusal::Setting);
@@ -53,7 +55,7 @@ pub fn haplotype_caller_activity_profile_state_by_tables(
     if !are_observations(pile) {
         return Err(Refusal::Word);
     }
-    Ok(state_of(contig, pos, pile, params, table, priors))
+    Ok(state_of(contig, pos, pile, params, tables))
 }
 
 // Whether the settings and the position are in their ranges: document 01's refusal 1.
@@ -82,10 +84,9 @@ fn state_of(
     pos: GenomePosition,
     pile: &[u32],
     params: HaplotypeCallerActivityScoringParams,
-    table: &[f64],
-    priors: &[f64],
+    tables: ScoringTables,
 ) -> ActivityProfileState
-    ensures { result ≡ state_by table.now priors.now contig pos pile.now params }
+    ensures { result ≡ state_by tables.entry.contributions.now tables.entry.priors.now contig pos pile.now params }
 {
     if pile.len() == 0 {
         return ActivityProfileState {
@@ -97,7 +98,7 @@ fn state_of(
         };
     }
     let evidence = evidence_of(hq_soft_clip_running_mean_rcm_path(pile, params));
-    let a = activity_of(pile, params, table, priors);
+    let a = activity_of(pile, params, tables);
     ActivityProfileState {
         contig,
         pos,
@@ -123,56 +124,56 @@ pub fn evidence_of(mean: f64) -> ActivityEvidence
 pub fn activity_of(
     pile: &[u32],
     params: HaplotypeCallerActivityScoringParams,
-    table: &[f64],
-    priors: &[f64],
+    tables: ScoringTables,
 ) -> Activity
-    ensures { result ≡ activity_by table.now priors.now pile.now params }
+    ensures { result ≡ activity_by tables.entry.contributions.now tables.entry.priors.now pile.now params }
 {
     let p = params.sample_ploidy;
     if p.0 <= 3 {
         let mut few = [0.0; 4];
-        return activity_at_front(&mut few, pile, params, table, priors);
+        return activity_at_front(&mut few, pile, params, tables);
     }
     if p.0 <= 100 {
         let mut many = [0.0; 101];
-        return activity_at_front(&mut many, pile, params, table, priors);
+        return activity_at_front(&mut many, pile, params, tables);
     }
     let mut most = [0.0; 256];
-    activity_at_front(&mut most, pile, params, table, priors)
+    activity_at_front(&mut most, pile, params, tables)
 }
 
 fn activity_at_front(
     gl: &mut [f64],
     pile: &[u32],
     params: HaplotypeCallerActivityScoringParams,
-    table: &[f64],
-    priors: &[f64],
+    tables: ScoringTables,
 ) -> Activity
     requires { params.sample_ploidy.0 < length gl.old }
-    ensures { result ≡ activity_by table.now priors.now pile.now params }
+    ensures { result ≡ activity_by tables.entry.contributions.now tables.entry.priors.now pile.now params }
 {
     let p = params.sample_ploidy;
     let n = p.0 as usize + 1;
-    activity_in(&mut gl[..n], pile, params, table, priors)
+    activity_in(&mut gl[..n], pile, params, tables)
 }
 
 fn activity_in(
     gl: &mut [f64],
     pile: &[u32],
     params: HaplotypeCallerActivityScoringParams,
-    table: &[f64],
-    priors: &[f64],
+    tables: ScoringTables,
 ) -> Activity
     requires { length gl.old ≡ params.sample_ploidy.0 + 1 }
-    ensures value { result ≡ activity_by table.now priors.now pile.now params }
+    ensures value { result ≡ activity_by tables.entry.contributions.now tables.entry.priors.now pile.now params }
     ensures gl_after { gl.new
-        ≡ written_by priors.now params (rounded_by table.now pile.now params) }
+        ≡ written_by tables.entry.priors.now params (rounded_by tables.entry.contributions.now pile.now params) }
 {
     contribution_table::calc_ref_vs_any_log10_genotype_likelihoods_by_table(
-        gl, pile, params, table,
+        gl,
+        pile,
+        params,
+        tables.contributions,
     );
     genotype_posterior::genotype_log10_likelihoods_after_java_genotype_pl_roundtrip(gl);
-    from_rounded(gl, params, priors)
+    from_rounded(gl, params, tables.priors)
 }
 
 fn from_rounded(

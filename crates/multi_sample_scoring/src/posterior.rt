@@ -3,6 +3,7 @@ ghost use Rattle.std.specs.Prelude.{◌≡◌};
 ghost use Rattle.multi_sample_scoring.specs.Sets.{clamped};
 ghost use Rattle.multi_sample_scoring.specs.Passed.{with_pile};
 
+use activity_scoring::ScoringTables;
 use genotype_likelihoods::HaplotypeCallerActivityScoringParams;
 
 // The probability that no sample is active, after one pile more.
@@ -11,15 +12,14 @@ pub(crate) fn with_pile(
     inactive_prob: f64,
     pile: &[u32],
     params: HaplotypeCallerActivityScoringParams,
-    table: &[f64],
-    priors: &[f64],
+    tables: ScoringTables,
 ) -> f64
-    ensures { result ≡ with_pile table.now priors.now params inactive_prob pile.now }
+    ensures { result ≡ with_pile tables.entry.contributions.now tables.entry.priors.now params inactive_prob pile.now }
 {
     if pile.len() == 0 {
         return inactive_prob;
     }
-    let a = activity_scoring::activity_of(pile, params, table, priors);
+    let a = activity_scoring::activity_of(pile, params, tables);
     inactive_prob * clamp(1.0 - a.probability)
 }
 

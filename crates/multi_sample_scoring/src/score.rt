@@ -9,7 +9,7 @@ use crate::MAX_PILES;
 use crate::lengths::{count_left, is_any_too_deep};
 use crate::posterior::with_pile;
 use activity_profile::ActivityProfileState;
-use activity_scoring::Activity;
+use activity_scoring::{Activity, ScoringTables};
 use genome::{GenomePosition, Refusal};
 use genotype_likelihoods::HaplotypeCallerActivityScoringParams;
 
@@ -25,9 +25,12 @@ pub fn haplotype_caller_activity_profile_state_multi_sample(
     ensures { outcome_of result ≡ set_score_of contig pos words.now lengths.now params }
 {
     let array = [0.0; 1];
-    let none = &array[..0];
+    let none = ScoringTables {
+        contributions: &array[..0],
+        priors: &array[..0],
+    };
     haplotype_caller_activity_profile_state_multi_sample_by_tables(
-        contig, pos, words, lengths, params, none, none,
+        contig, pos, words, lengths, params, none,
     )
 }
 
@@ -39,11 +42,10 @@ pub fn haplotype_caller_activity_profile_state_multi_sample_by_tables(
     words: &[u32],
     lengths: &[u32],
     params: HaplotypeCallerActivityScoringParams,
-    table: &[f64],
-    priors: &[f64],
+    tables: ScoringTables,
 ) -> Result<ActivityProfileState, Refusal>
     ensures { outcome_of result
-        ≡ set_score_by table.now priors.now contig pos words.now lengths.now params }
+        ≡ set_score_by tables.entry.contributions.now tables.entry.priors.now contig pos words.now lengths.now params }
 {
     let many = lengths.len() > MAX_PILES;
     let in_range = activity_scoring::is_in_range(pos, params);
@@ -64,7 +66,7 @@ pub fn haplotype_caller_activity_profile_state_multi_sample_by_tables(
     if !activity_scoring::are_observations(words) {
         return Err(Refusal::Word);
     }
-    Ok(set_state(contig, pos, words, lengths, params, table, priors))
+    Ok(set_state(contig, pos, words, lengths, params, tables))
 }
 
 // The state of a set that is not refused. The clip mean runs on from pile to pile, so it is that of the run.
@@ -74,16 +76,15 @@ fn set_state(
     words: &[u32],
     lengths: &[u32],
     params: HaplotypeCallerActivityScoringParams,
-    table: &[f64],
-    priors: &[f64],
+    tables: ScoringTables,
 ) -> ActivityProfileState
     requires { (length lengths.now ≤ max_piles) × (total lengths.now ≡ length words.now) }
     ensures { result
-        ≡ set_state_by table.now priors.now contig pos words.now lengths.now params }
+        ≡ set_state_by tables.entry.contributions.now tables.entry.priors.now contig pos words.now lengths.now params }
 {
     let mean = activity_scoring::hq_soft_clip_running_mean_rcm_path(words, params);
     let evidence = activity_scoring::evidence_of(mean);
-    let a = set_activity(words, lengths, params, table, priors);
+    let a = set_activity(words, lengths, params, tables);
     ActivityProfileState {
         contig,
         pos,
@@ -99,12 +100,11 @@ fn set_activity(
     words: &[u32],
     lengths: &[u32],
     params: HaplotypeCallerActivityScoringParams,
-    table: &[f64],
-    priors: &[f64],
+    tables: ScoringTables,
 ) -> Activity
     requires { (length lengths.now ≤ max_piles) × (total lengths.now ≡ length words.now) }
     ensures { result
-        ≡ set_activity_by table.now priors.now params words.now lengths.now }
+        ≡ set_activity_by tables.entry.contributions.now tables.entry.priors.now params words.now lengths.now }
 {
     let left = count_left(lengths);
     if left == 0 {
@@ -114,11 +114,9 @@ fn set_activity(
         };
     }
     if left == 1 {
-        return activity_scoring::activity_of(words, params, table, priors);
+        return activity_scoring::activity_of(words, params, tables);
     }
-    let probability = calculate_multi_sample_any_non_ref_posterior(
-        words, lengths, params, table, priors,
-    );
+    let probability = calculate_multi_sample_any_non_ref_posterior(words, lengths, params, tables);
     Activity {
         probability,
         original: 0.0,
@@ -130,18 +128,17 @@ fn calculate_multi_sample_any_non_ref_posterior(
     words: &[u32],
     lengths: &[u32],
     params: HaplotypeCallerActivityScoringParams,
-    table: &[f64],
-    priors: &[f64],
+    tables: ScoringTables,
 ) -> f64
     requires { (length lengths.now ≤ max_piles) × (total lengths.now ≡ length words.now) }
-    ensures { result ≡ any_by table.now priors.now params words.now lengths.now }
+    ensures { result ≡ any_by tables.entry.contributions.now tables.entry.priors.now params words.now lengths.now }
 {
     let mut inactive_prob = 1.0;
     let mut at = 0;
     let mut i = 0;
     while i < lengths.len() {
         let end = past(at, lengths[i]);
-        inactive_prob = with_pile(inactive_prob, &words[at..end], params, table, priors);
+        inactive_prob = with_pile(inactive_prob, &words[at..end], params, tables);
         at = end;
         i += 1;
     }

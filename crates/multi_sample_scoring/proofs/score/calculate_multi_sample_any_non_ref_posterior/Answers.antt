@@ -29,7 +29,7 @@ loop-i-preserved c =
       omega (arith, end.1),
       omega (arith, end.0, next, at.loop-i.invariant.2),
       rw (c.with_pile-inactive_prob.ensures, pile, end.0)
-          (piles-turn (with_pile a.table.now a.priors.now a.params) at.loop-i.inactive_prob a.words.now a.lengths.now at.loop-i.at at.loop-i.i (omega arith) ∙ at.loop-i.invariant.3),
+          (piles-turn (with_pile a.tables.contributions.now a.tables.priors.now a.params) at.loop-i.inactive_prob a.words.now a.lengths.now at.loop-i.at at.loop-i.i (omega arith) ∙ at.loop-i.invariant.3),
     )
 
 pub returns : goal.returns
@@ -37,8 +37,8 @@ unfolding any_non_ref
 returns c =
     let at = c in
     let a = at.args in
-    let step = with_pile a.table.now a.priors.now a.params in
+    let step = with_pile a.tables.contributions.now a.tables.priors.now a.params in
     ap (sub binary64 one_f)
     (sym (piles_end step at.loop-i.inactive_prob (drop at.loop-i.at a.words.now) a.lengths.now at.loop-i.i c.loop-i-test.false)
     ∙ at.loop-i.invariant.3
-    ∙ walk_is a.table.now a.priors.now a.params one_f (piles a.words.now a.lengths.now))
+    ∙ walk_is a.tables.contributions.now a.tables.priors.now a.params one_f (piles a.words.now a.lengths.now))

@@ -11,7 +11,7 @@ use Rattle.multi_sample_scoring.proofs.score.calculate_multi_sample_any_non_ref_
 abbrev pub invariant-loop-i : goal.invariant-loop-i
 invariant-loop-i l =
     (l.i ≤ length l.lengths) × (l.at ≤ l.i * 4294967295) × (l.at + total (drop l.i l.lengths) ≡ length l.words)
-    × (fold (with_pile l.table l.priors l.params) l.inactive_prob (piles (drop l.at l.words) (drop l.i l.lengths)) ≡ fold (with_pile l.table l.priors l.params) one_f (piles l.words l.lengths))
+    × (fold (with_pile l.tables.contributions.now l.tables.priors.now l.params) l.inactive_prob (piles (drop l.at l.words) (drop l.i l.lengths)) ≡ fold (with_pile l.tables.contributions.now l.tables.priors.now l.params) one_f (piles l.words l.lengths))
 
 abbrev pub decreases-loop-i : goal.decreases-loop-i
 decreases-loop-i l = length l.lengths - l.i
