@@ -5,6 +5,7 @@ ghost use Rattle.doubles.specs.Constants.{one_f};
 ghost use Rattle.elementary.specs.Exp.{exp_term, square, exp_of, ten_to_of};
 
 // e to the power x: 0.0 below -700, else the series at x/1024, squared ten times.
+#[tactic(auto, unfolding(crate::specs::Exp::exp_of))]
 pub fn exp(x: f64) -> f64
     ensures { result ≡ exp_of x }
 {
@@ -15,6 +16,7 @@ pub fn exp(x: f64) -> f64
 }
 
 // 10 to the power x.
+#[tactic(auto, unfolding(crate::specs::Exp::ten_to_of))]
 pub fn ten_to(x: f64) -> f64
     ensures { result ≡ ten_to_of x }
 {
@@ -26,10 +28,8 @@ fn series(t: f64) -> f64
     ensures { result ≡ down (exp_term t) 18 one_f }
 {
     let mut s = 1.0;
-    let mut k = 18u32;
-    while k > 0 {
+    for k in (1..=18u32).rev() {
         s = 1.0 + (t * s) / (k as f64);
-        k -= 1;
     }
     s
 }
@@ -39,10 +39,8 @@ fn squared(x: f64) -> f64
     ensures { result ≡ down square 10 x }
 {
     let mut s = x;
-    let mut n = 10u32;
-    while n > 0 {
+    for _ in 0..10u32 {
         s = s * s;
-        n -= 1;
     }
     s
 }

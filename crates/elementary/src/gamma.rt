@@ -3,7 +3,6 @@ ghost use Rattle.std.specs.Prelude.{◌≡◌};
 ghost use Rattle.elementary.specs.LnGamma.{shifted, correction, stirling, ln_gamma_of};
 
 use crate::Shifted;
-use crate::limits::{infinity, not_a_number};
 use crate::logarithm::ln;
 
 // No x above 0 needs more turns than this to come to 16.
@@ -14,15 +13,15 @@ pub fn ln_gamma(x: f64) -> f64
     ensures { result ≡ ln_gamma_of x }
 {
     if 0.0 < x {
-        if x < infinity() {
+        if x < f64::INFINITY {
             return stirling_at(shift(x));
         }
-        return infinity();
+        return f64::INFINITY;
     }
     if x == 0.0 {
-        return infinity();
+        return f64::INFINITY;
     }
-    not_a_number()
+    f64::NAN
 }
 
 // "c = 0, while x < 16 add ln x to c and 1 to x"
@@ -31,14 +30,12 @@ fn shift(from: f64) -> Shifted
 {
     let mut x = from;
     let mut c = 0.0;
-    let mut left = MAX_SHIFTS;
-    while left > 0 {
+    for _ in 0..MAX_SHIFTS {
         if !(x < 16.0) {
             return Shifted { x, c };
         }
         c = c + ln(x);
         x = x + 1.0;
-        left -= 1;
     }
     Shifted { x, c }
 }

@@ -7,7 +7,6 @@
 
 mod exponential;
 mod gamma;
-mod limits;
 mod logarithm;
 
 pub use exponential::{exp, ten_to};

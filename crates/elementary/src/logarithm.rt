@@ -4,7 +4,6 @@ ghost use Rattle.lists.specs.Loops.{down, until};
 ghost use Rattle.elementary.specs.Ln.{double, from1, max_scalings, halved, ln_term, first, ln_scaled, ln_of, log10_of};
 
 use crate::Scaled;
-use crate::limits::{infinity, not_a_number};
 
 // No finite double needs more halvings or doublings than this.
 const MAX_SCALINGS: u32 = 1074;
@@ -14,15 +13,15 @@ pub fn ln(y: f64) -> f64
     ensures { result ≡ ln_of y }
 {
     if 0.0 < y {
-        if y < infinity() {
+        if y < f64::INFINITY {
             return ln_scaled(scale_up(scale_down(y)));
         }
-        return infinity();
+        return f64::INFINITY;
     }
     if y == 0.0 {
-        return -infinity();
+        return -f64::INFINITY;
     }
-    not_a_number()
+    f64::NAN
 }
 
 // The log10 of e, by which ln becomes log10.
@@ -40,9 +39,7 @@ fn scale_down(y: f64) -> Scaled
     ensures { (result ≡ halved y) × (result.halvings ≤ 1074) × (result.doublings ≡ 0) }
 {
     let mut m = y;
-    let mut halvings = 0u32;
-    let mut left = MAX_SCALINGS;
-    while left > 0 {
+    for halvings in 0..MAX_SCALINGS {
         if m < 2.0 {
             return Scaled {
                 m,
@@ -51,12 +48,10 @@ fn scale_down(y: f64) -> Scaled
             };
         }
         m = m * 0.5;
-        halvings += 1;
-        left -= 1;
     }
     Scaled {
         m,
-        halvings,
+        halvings: MAX_SCALINGS,
         doublings: 0,
     }
 }
@@ -67,10 +62,8 @@ fn scale_up(s: Scaled) -> Scaled
     ensures { result ≡ until from1 double max_scalings s }
 {
     let mut m = s.m;
-    let mut doublings = s.doublings;
     let halvings = s.halvings;
-    let mut left = MAX_SCALINGS;
-    while left > 0 {
+    for doublings in 0..MAX_SCALINGS {
         if !(m < 1.0) {
             return Scaled {
                 m,
@@ -79,13 +72,11 @@ fn scale_up(s: Scaled) -> Scaled
             };
         }
         m = m * 2.0;
-        doublings += 1;
-        left -= 1;
     }
     Scaled {
         m,
         halvings,
-        doublings,
+        doublings: MAX_SCALINGS,
     }
 }
 
@@ -106,11 +97,9 @@ fn series(u: f64) -> f64
     ensures { result ≡ down (ln_term u) 17 first }
 {
     let mut s = 1.0 / 35.0;
-    let mut i = 17u32;
-    while i > 0 {
+    for i in (1..=17u32).rev() {
         let j = 2 * i - 1;
         s = 1.0 / (j as f64) + u * s;
-        i -= 1;
     }
     s
 }
