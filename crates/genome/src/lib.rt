@@ -23,29 +23,29 @@ pub const MISSING_QUALITY: u8 = 255;
 #[derive(Clone, Copy, Debug, PartialEq, Eq)]
 pub enum Refusal {
     // A setting outside its range.
-    Setting,
+    Setting = 1,
     // A lent buffer that is too short: a kernel buffer, or a table of scoring.
-    Buffer,
+    Buffer = 2,
     // A word, or a remainder of bytes, that is not allowed where it stands.
-    Word,
+    Word = 3,
     // A pile of too many words.
-    Depth,
+    Depth = 4,
     // A record that breaks the rules of a profile.
-    BrokenProfile,
+    BrokenProfile = 5,
     // A state of another contig than the profile's.
-    Contig,
+    Contig = 6,
     // A position that is not on the contig.
-    OffContig,
+    OffContig = 7,
     // A probability that is not in 0.0 to 1.0.
-    Activity,
+    Activity = 8,
     // A position that is not the one after the last input.
-    NotNext,
+    NotNext = 9,
     // Too few cells for what an add needs.
-    Cells,
+    Cells = 10,
     // A region size of 0.
-    ZeroSize,
+    ZeroSize = 11,
     // A set of too many piles: document 02, U6.
-    Piles,
+    Piles = 12,
 }
 
 impl Refusal {
@@ -53,19 +53,6 @@ impl Refusal {
     pub fn number(self) -> u32
         ensures { result ≡ number_of self }
     {
-        match self {
-            Refusal::Setting => 1,
-            Refusal::Buffer => 2,
-            Refusal::Word => 3,
-            Refusal::Depth => 4,
-            Refusal::BrokenProfile => 5,
-            Refusal::Contig => 6,
-            Refusal::OffContig => 7,
-            Refusal::Activity => 8,
-            Refusal::NotNext => 9,
-            Refusal::Cells => 10,
-            Refusal::ZeroSize => 11,
-            Refusal::Piles => 12,
-        }
+        self as u32
     }
 }

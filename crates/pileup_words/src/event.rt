@@ -5,21 +5,17 @@ ghost use Rattle.pileup_words.specs.Events.{event_of};
 use crate::{FIELD, KIND, StreamEvent};
 
 // The event that a word is, whatever came before it.
+#[tactic(auto, unfolding(crate::specs::Events::event_of))]
 pub fn event_of(w: u32) -> StreamEvent
     ensures { result ≡ event_of w }
 {
-    let kind = w / KIND;
-    if kind == 0 {
-        return StreamEvent::Locus { position: w % KIND };
-    }
-    if kind == 1 {
-        return StreamEvent::Observation { word: w };
-    }
-    if kind == 2 {
-        return StreamEvent::Pop { value: w % KIND };
-    }
-    StreamEvent::Setting {
-        field: w % KIND / FIELD,
-        value: w % FIELD,
+    match w / KIND {
+        0 => StreamEvent::Locus { position: w % KIND },
+        1 => StreamEvent::Observation { word: w },
+        2 => StreamEvent::Pop { value: w % KIND },
+        _ => StreamEvent::Setting {
+            field: w % KIND / FIELD,
+            value: w % FIELD,
+        },
     }
 }
