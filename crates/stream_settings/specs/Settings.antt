@@ -1,13 +1,17 @@
 -- 01, The region program: what kind 3 words set.
-use Rattle.std.specs.Prelude.{true, cond, ℕ, eqb}
+use Rattle.std.specs.Prelude.{◌≡◌, ◌⊎◌, ◌<◌, true, cond, ℕ, eqb, Result, MatchResult}
 use Rattle.std.specs.Float.{binary64}
 use Rattle.std.specs.Float.Ieee.{of_bits}
 use Rattle.numbers.specs.Ranges.{between}
+use Rattle.genome.specs.declared.Refusal.{Refusal}
+use Rattle.genome.specs.declared.Refusal.TheVariants.{Word}
 use Rattle.genome.specs.Refusals.{Outcome, refused, answered, setting_refusal, word_refusal}
 use Rattle.genome.specs.Ranges.{max_position}
 use Rattle.band_pass_kernel.specs.declared.BandPassActivityProfileParams.{BandPassActivityProfileParams}
 use Rattle.band_pass_kernel.specs.Resolve.{max_distance, max_filter}
 use Rattle.stream_settings.specs.declared.StreamSettings.{StreamSettings}
+use Rattle.stream_settings.specs.declared.StreamField.{StreamField}
+use Rattle.stream_settings.specs.declared.StreamField.TheVariants.{MaxRegionSize, MinRegionSize, AssemblyRegionExtension, MaxProbPropagationDistance, MaxFilterSize, ContigLen}
 
 abbrev pub settings : ℕ → ℕ → ℕ → ℕ → ℕ → ℕ → StreamSettings
 settings most least extension distance filter length = record {
@@ -32,6 +36,19 @@ params_of s = record {
   sigma = of_bits binary64 0x4031_0000_0000_0000;
   adaptive_filter_size = true;
 }
+
+-- the numbers of the fields, as above
+abbrev pub field_number : StreamField → ℕ
+field_number MaxRegionSize = 1
+field_number MinRegionSize = 2
+field_number AssemblyRegionExtension = 3
+field_number MaxProbPropagationDistance = 4
+field_number MaxFilterSize = 5
+field_number ContigLen = 6
+
+-- the field of a number; a number that names none is one of "Any other word .. refused 3"
+abbrev pub NamesField : ℕ → Result StreamField Refusal → Type 0
+NamesField n r = MatchResult r (λ f. field_number f ≡ n) (λ e. (e ≡ Word) × (n ≡ 0 ⊎ 6 < n))
 
 -- "Values are range-checked, and refused 1, at their word"
 abbrev pub ranged_of : StreamSettings → ℕ → ℕ → ℕ → Outcome StreamSettings

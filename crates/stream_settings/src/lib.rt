@@ -13,3 +13,14 @@ pub struct StreamSettings {
     pub max_filter_size: u32,
     pub contig_len: u32,
 }
+
+// The fields that kind 3 words name.
+#[derive(Clone, Copy, Debug, PartialEq, Eq)]
+pub enum StreamField {
+    MaxRegionSize,
+    MinRegionSize,
+    AssemblyRegionExtension,
+    MaxProbPropagationDistance,
+    MaxFilterSize,
+    ContigLen,
+}
