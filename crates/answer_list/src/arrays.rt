@@ -3,17 +3,14 @@ ghost use Rattle.std.specs.Prelude.{◌≡◌, min, slice_index};
 ghost use Rattle.lists.specs.Each.{tabulate};
 ghost use Rattle.answer_list.specs.Arrays.{double_at, pattern_at};
 
-use crate::words::{double_at, double_of, word_at};
+use crate::words::{double_at, word_at};
+use std::num::{f64_from_bits_with_nan, wrapping_add_u64, wrapping_add_usize};
 
 // The length in word i, cut to the room that there is; an answer with a longer slice then differs.
 pub fn length_at(words: &[u64], i: usize) -> usize
     ensures { result ≡ min (slice_index words.now i) 1024 }
 {
-    let n = word_at(words, i);
-    if n <= 1024 {
-        return n as usize;
-    }
-    1024
+    word_at(words, i).min(1024) as usize
 }
 
 // The doubles from word `at` on.
@@ -21,10 +18,8 @@ pub fn doubles_from(words: &[u64], at: usize) -> [f64; 1024]
     ensures { result ≡ tabulate (double_at words.now at) 1024 }
 {
     let mut into = [0.0f64; 1024];
-    let mut i = 0usize;
-    while i < 1024 {
-        into[i] = double_at(words, std::num::wrapping_add_usize(at, i));
-        i += 1;
+    for (i, x) in into.iter_mut().enumerate() {
+        *x = double_at(words, wrapping_add_usize(at, i));
     }
     into
 }
@@ -33,11 +28,9 @@ pub fn doubles_from(words: &[u64], at: usize) -> [f64; 1024]
 pub fn filled(first: u64) -> [f64; 1024]
     ensures { result ≡ tabulate (pattern_at first) 1024 }
 {
-    let mut buffer = [0.0f64; 1024];
-    let mut i = 0usize;
-    while i < 1024 {
-        buffer[i] = double_of(std::num::wrapping_add_u64(first, i as u64));
-        i += 1;
+    let mut into = [0.0f64; 1024];
+    for (i, x) in into.iter_mut().enumerate() {
+        *x = f64_from_bits_with_nan(wrapping_add_u64(first, i as u64));
     }
-    buffer
+    into
 }

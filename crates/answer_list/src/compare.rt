@@ -4,54 +4,58 @@ ghost use Rattle.std.specs.List.{fold};
 ghost use Rattle.answer_list.specs.Compare.{with_word, with_double};
 
 use crate::Compared;
-use crate::words::bits_of;
+use std::num::f64_to_bits_with_nan;
 
-impl Compared {
+impl<'a> Compared<'a> {
     // Nothing compared yet; the results start at `at`.
-    pub fn from(at: usize) -> Compared
-        ensures { result ≡ record { at = at; same = true } }
+    pub fn from(words: &'a [u64], at: usize) -> Compared<'a>
+        ensures { result ≡ record { words = words.entry; at = at; same = true } }
     {
-        Compared { at, same: true }
+        Compared {
+            words,
+            at,
+            same: true,
+        }
     }
 
     // With the next word compared.
-    pub fn word(self, words: &[u64], w: u64) -> Compared
-        ensures { result ≡ with_word words.now self w }
+    #[tactic(auto, using(std::proofs::lemmas::Bool::Decides::nat_tests), unfolding(crate::specs::Compare::with_word))]
+    pub fn word(self, w: u64) -> Compared<'a>
+        ensures { result ≡ with_word self.entry w }
     {
         let at = self.at;
-        if at < words.len() {
+        if at < self.words.len() {
             return Compared {
                 at: at + 1,
-                same: self.same & (words[at] == w),
+                same: self.same & (self.words[at] == w),
+                ..self
             };
         }
-        Compared { at, same: false }
+        Compared {
+            same: false,
+            ..self
+        }
     }
 
     // With the next double compared, by its bit pattern.
-    pub fn double(self, words: &[u64], x: f64) -> Compared
-        ensures { result ≡ with_double words.now self x }
+    #[tactic(auto, unfolding(crate::specs::Compare::with_double))]
+    pub fn double(self, x: f64) -> Compared<'a>
+        ensures { result ≡ with_double self.entry x }
     {
-        self.word(words, bits_of(x))
+        self.word(f64_to_bits_with_nan(x))
     }
 
     // With the elements of a slice compared, one after the other.
-    pub fn doubles(self, words: &[u64], xs: &[f64]) -> Compared
-        ensures { result ≡ fold (with_double words.now) self xs.now }
+    pub fn doubles(self, xs: &[f64]) -> Compared<'a>
+        ensures { result ≡ fold with_double self.entry xs.now }
     {
-        let mut c = self;
-        let mut i = 0;
-        while i < xs.len() {
-            c = c.double(words, xs[i]);
-            i += 1;
-        }
-        c
+        xs.iter().fold(self, |c, x| c.double(*x))
     }
 
     // Whether all were the same and no word is left.
-    pub fn whole(self, words: &[u64]) -> bool
-        ensures { result ≡ (self.same && self.at == length words.now) }
+    pub fn whole(self) -> bool
+        ensures { result ≡ (self.entry.same && self.entry.at == length self.entry.words.now) }
     {
-        self.same & (self.at == words.len())
+        self.same & (self.at == self.words.len())
     }
 }

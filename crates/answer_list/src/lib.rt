@@ -9,22 +9,35 @@ mod words;
 
 pub use arrays::{doubles_from, filled, length_at};
 pub use read::read_answer;
-pub use words::{bits_of, double_at, double_of, number_at, word_at};
+use std::io;
+pub use words::{double_at, number_at, word_at};
 
-// What reading an answer found.
-#[derive(Clone, Copy)]
-pub enum Answer {
-    // A function's number, and how many words of arguments and results now stand at the front of the lent slice.
-    Words { function: u64, count: usize },
-    // The list has ended.
-    End,
+// An answer: a function's number, and how many words of arguments and results now stand at the front of the lent slice.
+#[derive(Clone, Copy, Debug)]
+pub struct Answer {
+    pub function: u64,
+    pub count: usize,
+}
+
+// Why an answer could not be read.
+#[derive(Debug, Drop)]
+pub enum ReadError {
+    // A read failed.
+    Io(io::Error),
     // The list ends within an answer, or an answer is longer than the lent slice.
     Malformed,
 }
 
-// How far the results of an answer have been compared, and whether all so far were the same.
+impl From<io::Error> for ReadError {
+    fn from(e: io::Error) -> ReadError {
+        ReadError::Io(e)
+    }
+}
+
+// The words of an answer, how far its results have been compared, and whether all so far were the same.
 #[derive(Clone, Copy)]
-pub struct Compared {
+pub struct Compared<'a> {
+    pub words: &'a [u64],
     pub at: usize,
     pub same: bool,
 }

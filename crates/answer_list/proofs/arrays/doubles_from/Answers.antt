@@ -6,19 +6,15 @@ use Rattle.answer_list.specs.Arrays.{double_at}
 use Rattle.answer_list.proofs.arrays.doubles_from.Goals as goal
 
 pub loop-i-init : goal.loop-i-init
-loop-i-init c = (omega arith, sym (up_to_zero _ _))
+loop-i-init c = sym (up_to_zero _ _)
 
 pub loop-i-preserved : goal.loop-i-preserved
 unfolding double_at
 loop-i-preserved c =
-    let at = c in
-    let a = at.args in (
-      omega arith,
-      up_to_put (fixed (double_at a.words.now a.at)) at.loop-i.i _ _ nan _ at.loop-i.invariant.1 (omega arith) (simp (c.double_at.ensures, c.wrapping_add_usize.ensures.value)),
-    )
+    let a = c.args in
+    up_to_put (fixed (double_at a.words.now a.at)) c.loop-i.i _ _ nan _ c.loop-i.invariant (omega arith) (simp (c.double_at.ensures, c.wrapping_add_usize.ensures.value))
 
 pub returns : goal.returns
 returns c =
-    let a = c.args in
-    let f = double_at a.words.now a.at in
-    c.loop-i.invariant.1 ∙ up_to_all (fixed f) c.loop-i.i _ (omega arith) ∙ each-fixed f _
+    let f = double_at c.args.words.now c.args.at in
+    c.loop-i.invariant ∙ up_to_all (fixed f) _ _ (omega arith) ∙ each-fixed f _
