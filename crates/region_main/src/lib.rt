@@ -97,11 +97,6 @@ fn turn<W: Write>(
             let ended = region_run::end(r, remainder, text, pile, kernel, cells, table, priors);
             written(ended, writer, text)
         }
-        Input::Failed => {
-            let mut s = r;
-            s.over = true;
-            Ok(s)
-        }
     }
 }
 

@@ -5,7 +5,7 @@ use Rattle.std.specs.Io.KnownBytes.{Consumes, IsAtEnd}
 use Rattle.std.specs.declared.option.Option.{Option}
 use Rattle.standard_io.specs.Words.{WordsRead}
 use Rattle.standard_io.specs.declared.Input.{Input}
-use Rattle.standard_io.specs.declared.Input.TheVariants.{Words, End, Failed}
+use Rattle.standard_io.specs.declared.Input.TheVariants.{Words, End}
 
 -- Words came, as WordsRead says of them. In its block, behind the bytes that were kept, stand those that came, at least one, and they are the reader's next.
 pub record WordsTaken (left left' : Option (List ℕ)) (from : ℕ) (bytes bytes' words words' : List ℕ) (count kept : ℕ) : Type 0 where
@@ -15,8 +15,7 @@ pub record WordsTaken (left left' : Option (List ℕ)) (from : ℕ) (bytes bytes
   pub behind : take words_read.n words_read.read ≡ take from bytes ++ came
   pub taken : Consumes left left' came
 
--- the end is answered where the reader has come to it, and took nothing; that a read failed is no such answer
+-- the end is answered where the reader has come to it, and took nothing
 abbrev pub Takes : Option (List ℕ) → Option (List ℕ) → ℕ → List ℕ → List ℕ → List ℕ → List ℕ → Input → Type 0
 Takes left left' from bytes bytes' words words' (Words count kept) = WordsTaken left left' from bytes bytes' words words' count kept
 Takes left left' from bytes bytes' words words' (End remainder) = Consumes left left' [] × IsAtEnd left'
-Takes left left' from bytes bytes' words words' Failed = ⊥

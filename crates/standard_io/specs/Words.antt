@@ -2,7 +2,7 @@
 use Rattle.std.specs.Prelude.{cond, not, List, ◌≡◌, ℕ, ◌+◌, ◌-◌, ◌*◌, ◌/◌, ◌%◌, ◌≤◌, ltb, eqb, get_or, take}
 use Rattle.lists.specs.Each.{each}
 use Rattle.standard_io.specs.declared.Input.{Input}
-use Rattle.standard_io.specs.declared.Input.TheVariants.{Words, End, Failed}
+use Rattle.standard_io.specs.declared.Input.TheVariants.{Words, End}
 
 abbrev pub BLOCK : ℕ
 BLOCK = 65536
@@ -14,7 +14,6 @@ WORDS = 16384
 abbrev pub kept_of : Input → ℕ
 kept_of (Words count kept) = kept
 kept_of (End remainder) = 0
-kept_of Failed = 0
 
 -- "little-endian words"
 abbrev pub word_at : List ℕ → ℕ → ℕ
@@ -47,4 +46,3 @@ pub record WordsRead (from : ℕ) (bytes bytes' words words' : List ℕ) (count 
 abbrev pub Reads : ℕ → List ℕ → List ℕ → List ℕ → List ℕ → Input → Type 0
 Reads from bytes bytes' words words' (Words count kept) = WordsRead from bytes bytes' words words' count kept
 Reads from bytes bytes' words words' (End remainder) = (remainder ≡ not (eqb from 0)) × (words' ≡ words)
-Reads from bytes bytes' words words' Failed = words' ≡ words

@@ -21,6 +21,4 @@ pub enum Input {
     Words { count: usize, kept: usize },
     // The end of the input, and whether bytes are left over that are no whole word.
     End { remainder: bool },
-    // Nothing, by a read that failed. `read_words` answers the error in its place.
-    Failed,
 }

@@ -1,5 +1,5 @@
 // Reading words.
-ghost use Rattle.std.specs.Prelude.{◌≡◌, ◌+◌, ◌*◌, ◌/◌, ◌%◌, ◌≤◌, ◌<◌, length, take, IfOk, OnErr};
+ghost use Rattle.std.specs.Prelude.{◌≡◌, ◌+◌, ◌/◌, ◌%◌, ◌≤◌, ◌<◌, length, take, IfOk, OnErr};
 ghost use Rattle.std.specs.Io.{ReadsAtMost};
 ghost use Rattle.std.specs.Io.KnownBytes.{Consumes, IsAtEnd, Keeps};
 ghost use Rattle.lists.specs.Each.{each};
@@ -34,9 +34,8 @@ impl Input {
         ensures { result ≡ kept_of self }
     {
         match self {
-            Input::Words { count: _, kept } => kept,
-            Input::End { remainder: _ } => 0,
-            Input::Failed => 0,
+            Input::Words { kept, .. } => kept,
+            Input::End { .. } => 0,
         }
     }
 }
@@ -93,10 +92,8 @@ fn words_of(bytes: &[u8], n: usize, words: &mut [u32]) -> usize
     ensures words_after { words.new ≡ each (read_word bytes.now (n / 4)) words.old }
 {
     let count = n / 4;
-    let mut i = 0;
-    while i < count {
+    for i in 0..count {
         words[i] = word_at(bytes, 4 * i);
-        i += 1;
     }
     count
 }
@@ -106,17 +103,7 @@ fn word_at(bytes: &[u8], at: usize) -> u32
     requires { at + 4 ≤ length bytes.now }
     ensures { result ≡ word_at bytes.now at }
 {
-    let b0 = wide(bytes[at]);
-    let b1 = wide(bytes[at + 1]);
-    let b2 = wide(bytes[at + 2]);
-    let b3 = wide(bytes[at + 3]);
-    b0 + 256 * (b1 + 256 * (b2 + 256 * b3))
-}
-
-fn wide(byte: u8) -> u32
-    ensures { (result ≡ byte) × (result < 256) }
-{
-    byte as u32
+    u32::from_le_bytes([bytes[at], bytes[at + 1], bytes[at + 2], bytes[at + 3]])
 }
 
 // Moves the bytes behind the last whole word of the first n to the front of the block, and answers how many they are.
@@ -126,10 +113,6 @@ fn keep_rest(bytes: &mut [u8], n: usize) -> usize
     ensures bytes_after { bytes.new ≡ each (moved_byte bytes.old n) bytes.old }
 {
     let rest = n % 4;
-    let mut i = 0;
-    while i < rest {
-        bytes[i] = bytes[n - rest + i];
-        i += 1;
-    }
+    bytes.copy_within(n - rest..n, 0);
     rest
 }

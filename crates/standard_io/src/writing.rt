@@ -14,7 +14,7 @@ pub fn write_front<W: Write>(writer: &mut W, block: &[u8; BLOCK], n: usize) -> i
     ensures ok { OnOk result (Appends (W.contents writer.old) (W.contents writer.new) (take n block.now)) }
     ensures err { OnErr result (FrontWritten (W.contents writer.old) (W.contents writer.new) (take n block.now)) }
 {
-    write_all(writer, first(block, n))
+    write_all(writer, &block[..n.min(BLOCK)])
 }
 
 // Writes every byte in its order, or stops at a write that fails or takes nothing. One that a signal interrupts is tried again.
@@ -38,13 +38,4 @@ fn write_all<W: Write>(writer: &mut W, bytes: &[u8]) -> io::Result<()>
         }
     }
     Err(io::Error::from(ErrorKind::Interrupted))
-}
-
-fn first<'a>(bytes: &'a [u8], n: usize) -> &'a [u8]
-    ensures { result.now ≡ take n bytes.now }
-{
-    if n <= bytes.len() {
-        return &bytes[..n];
-    }
-    bytes
 }

@@ -1,13 +1,8 @@
 -- `words_of` meets its contract: the words before i are read.
-use Prim.Native.Nat.{◌-◌, ◌/◌, ◌≤◌}
-use lib.ListN.{length}
-use mathlib.Core.Path.{◌≡◌}
+use Rattle.std.proofs.Common.{◌≡◌, ◌/◌, length}
 use Rattle.lists.specs.Each.{up_to}
 use Rattle.standard_io.specs.Words.{read_word}
 use Rattle.standard_io.proofs.reading.words_of.Given as goal
 
 abbrev pub invariant-loop-i : goal.invariant-loop-i
-invariant-loop-i l = (l.i ≤ l.n / 4) × (length l.words ≡ length l.initial.words) × (l.words ≡ up_to (read_word l.bytes (l.n / 4)) l.i l.initial.words)
-
-abbrev pub decreases-loop-i : goal.decreases-loop-i
-decreases-loop-i l = l.n / 4 - l.i
+invariant-loop-i l = (length l.words ≡ length l.initial.words) × (l.words ≡ up_to (read_word l.bytes (l.n / 4)) l.i l.initial.words)
