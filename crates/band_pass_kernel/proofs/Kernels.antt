@@ -1,7 +1,11 @@
 -- Laws of kernels: their length, the walk to the left of the middle, and what accepted settings tell.
 -- Assumes nothing.
-use Rattle.std.proofs.Common.{◌≡◌, ℕ, zero, suc, ◌-◌, ◌/◌, ◌<◌, ◌≤◌, Bool, true, false, cond, not, ◌&&◌, eqb, List, length, get_or, take, drop, sym, refl, ◌∙◌, not-suc-le-zero, sub-one, arith, take_at, eqb-true, leb-true}
+use Rattle.std.proofs.Common.{◌≡◌, ℕ, zero, suc, ◌+◌, ◌-◌, ◌/◌, ◌<◌, ◌≤◌, Bool, true, false, cond, not, ◌&&◌, eqb, List, [], ◌∷◌, length, get_or, take, drop, sym, refl, ◌∙◌, arith, take_at, eqb-true, leb-true}
 use lib.Ieee.{Float, nan, le}
+use Rattle.std.specs.Prelude.{reverse}
+use Rattle.std.specs.List.{prefix_len}
+use Rattle.std.proofs.Math.Seq.{take-suc}
+use Rattle.std.proofs.lemmas.List.{reverse-append}
 use Rattle.lists.specs.Each.{length-each, length-tabulate}
 use Rattle.lists.specs.Tests.{and_left, and_right}
 use Rattle.band_pass_kernel.specs.declared.BandPassActivityProfileParams.{BandPassActivityProfileParams}
@@ -18,20 +22,15 @@ pub take_written : (buffer : List Float) (f : ℕ) (sd : Float) → take (band f
 take_written buffer f sd = take_at (gaussian_kernel f sd) (drop (band f) buffer) (band f) (length-gaussian f sd (band f))
 
 -- ---- the walk to the left
-pub kept_stop : (least : Float) (kernel : List Float) (i : ℕ) → le least (get_or kernel (i - 1) nan) ≡ false → kept_left least kernel i ≡ 0
+-- it is the entries from the front on that are kept, once those left of place i are turned round
+pub kept-reversed : (least : Float) (kernel : List Float) (i : ℕ) → i ≤ length kernel → prefix_len (λ x. le least x) (reverse (take i kernel)) ≡ kept_left least kernel i
 unfolding kept_left
-kept_stop least kernel zero e = refl
-kept_stop least kernel (suc i) e = let h : le least (get_or kernel i nan) ≡ false = rw sub-one at e in rw h
-
-pub kept-turn : (least : Float) (kernel : List Float) (i : ℕ) → 0 < i → le least (get_or kernel (i - 1) nan) ≡ true → kept_left least kernel i ≡ suc (kept_left least kernel (i - 1))
-unfolding kept_left
-kept-turn least kernel zero h e = absurd (not-suc-le-zero h)
-kept-turn least kernel (suc i) h e = let g : le least (get_or kernel i nan) ≡ true = rw sub-one at e in rw (sub-one, g)
-
-pub kept_end : (least : Float) (kernel : List Float) (i : ℕ) → i ≤ 0 → kept_left least kernel i ≡ 0
-unfolding kept_left
-kept_end least kernel zero h = refl
-kept_end least kernel (suc i) h = absurd (not-suc-le-zero h)
+kept-reversed least kernel zero h = refl
+kept-reversed least kernel (suc i) h =
+    let below : i < length kernel = omega arith in
+    let rest : i ≤ length kernel = omega arith in
+    let one : 1 + kept_left least kernel i ≡ suc (kept_left least kernel i) = omega arith in
+    rw (take-suc kernel i nan below, reverse-append (take i kernel) (get_or kernel i nan ∷ []), kept-reversed least kernel i rest, one)
 
 pub kept-le : (least : Float) (kernel : List Float) (i : ℕ) → kept_left least kernel i ≤ i
 unfolding kept_left

