@@ -5,14 +5,15 @@ ghost use Rattle.std.specs.Float.Ieee.{add, sub, eq};
 ghost use Rattle.elementary.specs.Exp.{ten_to_of};
 ghost use Rattle.log10_sums.specs.Sums.{max_element_index, powers, log_or_zero, sum_from, log10_sum_log10};
 
-// log10 of 0: Rust's f64::NEG_INFINITY.
+// log10 of 0, by a name, since proofs see the constant as its bit pattern.
 pub fn neg_infinity() -> f64
     ensures { result ≡ inf true }
 {
-    -1.0 / 0.0
+    f64::NEG_INFINITY
 }
 
 // log10 of the sum of 10 to each of the values.
+#[tactic(auto, using(std::proofs::lemmas::Bool::Decides::nat_tests), unfolding(crate::specs::Sums::log10_sum_log10))]
 pub fn log10_sum_log10(values: &[f64]) -> f64
     ensures { result ≡ log10_sum_log10 values.now }
 {
@@ -34,21 +35,16 @@ pub fn max_element_index(values: &[f64]) -> usize
     ensures upper_bound { result ≤ length values.now - 1 }
 {
     let mut m = 0;
-    let mut i = 1;
-    while i < values.len() {
-        m = index_if(values[i] > values[m], i, m);
-        i += 1;
+    for i in 1..values.len() {
+        if values[i] > values[m] {
+            m = i;
+        }
     }
     m
 }
 
-fn index_if(above: bool, i: usize, m: usize) -> usize
-    ensures { result ≡ cond above i m }
-{
-    if above { i } else { m }
-}
-
 // The sum from its largest value on, which is value m.
+#[tactic(auto, unfolding(crate::specs::Sums::sum_from))]
 fn sum_from(values: &[f64], m: usize, top: f64) -> f64
     ensures { result ≡ sum_from values.now m top }
 {
@@ -64,10 +60,8 @@ fn powers_of(values: &[f64], m: usize, top: f64) -> f64
     ensures { result ≡ powers values.now m top }
 {
     let mut s = 1.0;
-    let mut i = 0;
-    while i < values.len() {
-        s = with_power(s, values[i], top, i == m);
-        i += 1;
+    for (i, x) in values.iter().enumerate() {
+        s = with_power(s, *x, top, i == m);
     }
     s
 }
@@ -82,6 +76,7 @@ fn with_power(s: f64, x: f64, top: f64, largest: bool) -> f64
     s + elementary::ten_to(x - top)
 }
 
+#[tactic(auto, unfolding(crate::specs::Sums::log_or_zero))]
 fn log_or_zero(s: f64) -> f64
     ensures { result ≡ log_or_zero s }
 {

@@ -1,14 +1,10 @@
 -- `powers_of` meets its contract: the powers from here on, added to the sum so far, are the whole sum.
 use mathlib.Core.Path.{◌∙◌, ◌≡◌, sym}
-use native.Mathlib.Nat.{sub-zero}
 use native.Mathlib.Omega.{arith}
 use lib.ListN.{length}
 use Rattle.lists.specs.Loops.{along_end, along-turn}
 use Rattle.log10_sums.specs.Sums.{power}
 use Rattle.log10_sums.proofs.sums.powers_of.Goals as goal
-
-pub loop-i-init : goal.loop-i-init
-loop-i-init c = rw sub-zero
 
 pub loop-i-preserved : goal.loop-i-preserved
 unfolding power
