@@ -6,6 +6,7 @@
 // A profile's record is seven numbers in a lent array, in the order of their constants below, and the threshold, which the caller keeps.
 #![tactic(auto)]
 
+mod answer;
 mod profile;
 mod scoring;
 

@@ -7,6 +7,7 @@ ghost use Rattle.activity_profile.specs.Pop.{pop_answer, pop_cells};
 ghost use Rattle.region_picker.specs.Part.{record_of, profile_of, region_fields, evidence_from, state_from, params_from};
 ghost use Rattle.region_picker.specs.Part.{Copies, Answers, Adds, Pops};
 
+use crate::answer::write_answer;
 use crate::{EMPTY, HELD, RECORD, REGION};
 use activity_profile::{
     ActivityEvidence, ActivityProfileRegion, ActivityProfileState, BandPassActivityProfile, Popped,
@@ -106,13 +107,7 @@ pub fn region_picker_cells_needed(
         filter_size,
         contig_len,
     );
-    match needed {
-        Ok(n) => {
-            *cells = n;
-            0
-        }
-        Err(why) => why.number(),
-    }
+    write_answer(needed, cells)
 }
 
 // Adds the next locus. Answers 0, or the number of a refusal, which writes nothing.
@@ -151,7 +146,7 @@ pub fn region_picker_add(
             *profile = record_of(next);
             0
         }
-        Err(refused) => refused.refusal.number(),
+        Err(refused_add) => refused_add.refusal.number(),
     }
 }
 
@@ -201,7 +196,7 @@ pub fn region_picker_pop(
             *profile = record_of(next);
             EMPTY
         }
-        Err(refused) => refused.refusal.number(),
+        Err(refused_pop) => refused_pop.refusal.number(),
     }
 }
 

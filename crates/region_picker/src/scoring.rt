@@ -8,7 +8,9 @@ ghost use Rattle.multi_sample_scoring.specs.Tables.{set_score_by};
 ghost use Rattle.hq_soft_clip.specs.SoftClips.{clip_count};
 ghost use Rattle.region_picker.specs.Part.{scoring_from, evidence_fields, verdict_number, Answers, Scores};
 
+use crate::answer::write_answer;
 use activity_profile::{ActivityEvidence, ActivityProfileState};
+use activity_scoring::ScoringTables;
 use genome::{GenomePosition, Ploidy, Refusal};
 use genotype_likelihoods::HaplotypeCallerActivityScoringParams;
 
@@ -62,7 +64,7 @@ pub fn region_picker_fill_tables(
     let filling = activity_scoring::fill_tables(table, priors, params);
     match filling {
         Ok(()) => 0,
-        Err(why) => why.number(),
+        Err(refusal) => refusal.number(),
     }
 }
 
@@ -106,8 +108,10 @@ pub fn region_picker_score(
         GenomePosition(pos),
         pile,
         params,
-        table,
-        priors,
+        ScoringTables {
+            contributions: table,
+            priors,
+        },
     );
     write_score(scored, activity, evidence)
 }
@@ -153,8 +157,10 @@ pub fn region_picker_score_set(
             words,
             lengths,
             params,
-            table,
-            priors,
+            ScoringTables {
+                contributions: table,
+                priors,
+            },
         );
     write_score(scored, activity, evidence)
 }
@@ -219,11 +225,5 @@ pub fn region_picker_count_clips(cigar: &[u32], qualities: &[u8], count: &mut u6
         count.old count.new result }
 {
     let counted = hq_soft_clip::count_high_quality_soft_clip_bases_rcm(cigar, qualities);
-    match counted {
-        Ok(n) => {
-            *count = n;
-            0
-        }
-        Err(why) => why.number(),
-    }
+    write_answer(counted, count)
 }

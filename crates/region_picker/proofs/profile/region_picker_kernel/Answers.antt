@@ -1,15 +1,9 @@
 -- `region_picker_kernel` meets its contract: the kernel is copied where all three slices have room for it.
-use mathlib.Core.Bool.{false, true}
+use mathlib.Core.Bool.{false}
 use mathlib.Core.Path.{◌∙◌, ◌≡◌, refl}
 use Rattle.region_picker.proofs.Kernels.{kernel_copied}
 use Rattle.region_picker.specs.Part.{short_for}
 use Rattle.region_picker.proofs.profile.region_picker_kernel.Goals as goal
-
-pub returns-then-kernel-n : goal.returns-then-kernel-n
-returns-then-kernel-n c =
-    let a = c.args in
-    let short : short_for a.filter_size a.kernel.now a.full.now a.narrow.now ≡ true = c.if-kernel-n.true in
-    record { number = rw short c.number.ensures; written = rw short refl }
 
 pub returns : goal.returns
 returns c =
