@@ -1,18 +1,18 @@
 -- A refused step leaves the state and all lent memory as they were. Assumes nothing.
 use mathlib.Core.Path.{◌≡◌, refl, sym, ap, ◌∙◌}
 use mathlib.Core.List.{List}
+use Rattle.std.specs.Prelude.{Err}
 use Prim.Native.Nat.{ℕ}
 use native.Mathlib.Omega.{arith}
 use lib.Ieee.{Float}
 use Rattle.genome.specs.Refusals.{Outcome, refused, answered, number_of}
-use Rattle.genome.specs.declared.Refusal.{Refusal}
 use Rattle.pileup_words.specs.declared.StreamEvent.{StreamEvent}
 use Rattle.pileup_words.specs.declared.StreamEvent.TheVariants.{Locus, Observation, Pop, Setting, Remainder, End}
 use Rattle.activity_profile.specs.declared.BandPassActivityProfile.{BandPassActivityProfile}
 use Rattle.region_program.specs.declared.RegionStream.{RegionStream}
 use Rattle.region_program.specs.declared.Phase.{Phase}
 use Rattle.region_program.specs.declared.Phase.TheVariants.{Settings, Loci, Pile}
-use Rattle.region_program.specs.declared.Step.TheVariants.{Refused}
+use Rattle.region_program.specs.declared.RefusedStep.{RefusedStep}
 use Rattle.region_program.specs.Program.{Reading, stops, profile_made, made_with, before_loci, within_pile, act_at, act_by, Scoring}
 use Rattle.region_program.specs.Stream.{place_of, seen, pile_observed, pile_after, kernel_made, kernel_opened, kernel_after, Stepped}
 use Rattle.region_program.proofs.Acts.{refusal_keeps}
@@ -30,7 +30,7 @@ module _ (scoring : Scoring) (s : RegionStream) (pile : List ℕ) (kernel cells 
       go : (x : Phase) → act_at scoring (Observation w) (seen s pile kernel cells) (place_of x pile) ≡ stops n i t → pile_observed x w pile ≡ pile
       go Settings f = refl
       go Loci f = refl
-      go (Pile p j d) f = absurd (let z : ◌≡◌ {A = ℕ} 0 1 = cc in omega arith)
+      go (Pile o) f = absurd (let z : ◌≡◌ {A = ℕ} 0 1 = cc in omega arith)
 
   pub kernel_kept : (e : StreamEvent) → act_by scoring e (seen s pile kernel cells) ≡ stops n i t → kernel_after e s.phase s.settings kernel ≡ kernel
   unfolding kernel_after act_at before_loci made_with
@@ -48,7 +48,7 @@ module _ (scoring : Scoring) (s : RegionStream) (pile : List ℕ) (kernel cells 
       go : (x : Phase) → act_at scoring (Locus p) (seen s pile kernel cells) (place_of x pile) ≡ stops n i t → kernel_opened x s.settings kernel ≡ kernel
       go Settings f = made (profile_made s.settings) f
       go Loci f = refl
-      go (Pile q j d) f = refl
+      go (Pile o) f = refl
 
 -- what is left where a step is refused
 pub record AsItWas (s t : RegionStream) (pile pile' : List ℕ) (kernel kernel' cells cells' : List Float) : Type 0 where
@@ -57,9 +57,12 @@ pub record AsItWas (s t : RegionStream) (pile pile' : List ℕ) (kernel kernel' 
   pub same_kernel : kernel' ≡ kernel
   pub same_cells : cells' ≡ cells
 
-pub refused_as_it_was : (scoring : Scoring) (e : StreamEvent) (s t : RegionStream) (y : Refusal) (i : ℕ) (pile pile' : List ℕ) (kernel kernel' cells cells' : List Float)
-    → Stepped scoring e s pile pile' kernel kernel' cells cells' (Refused y i t) → AsItWas s t pile pile' kernel kernel' cells cells'
-refused_as_it_was scoring e s t y i pile pile' kernel kernel' cells cells' step =
+pub refused_as_it_was : (scoring : Scoring) (e : StreamEvent) (s : RegionStream) (r : RefusedStep) (pile pile' : List ℕ) (kernel kernel' cells cells' : List Float)
+    → Stepped scoring e s pile pile' kernel kernel' cells cells' (Err r) → AsItWas s r.stream pile pile' kernel kernel' cells cells'
+refused_as_it_was scoring e s r pile pile' kernel kernel' cells cells' step =
+    let t = r.stream in
+    let y = r.why.refusal in
+    let i = r.why.index in
     let stopped = sym step.answer in
     let same = refusal_keeps scoring e (seen s pile kernel cells) (seen t pile' kernel' cells') (number_of y) i stopped in
     record {

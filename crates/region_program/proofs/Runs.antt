@@ -20,7 +20,7 @@ use Rattle.activity_scoring.specs.Score.{max_depth}
 use Rattle.region_program.specs.declared.RegionStream.{RegionStream}
 use Rattle.region_program.specs.declared.Phase.TheVariants.{Pile}
 use Rattle.region_program.specs.Program.{Scoring, Reading, in_pile, Answer, goes, again, line, stops, next, moved, deepened, within_pile, act_at, act_by, Printed}
-use Rattle.region_program.specs.Stream.{seen, PILE, kept}
+use Rattle.region_program.specs.Stream.{seen, pile_of, PILE, kept}
 use Rattle.region_program.specs.Feeding.{FedBy, onward}
 use Rattle.region_program.specs.Run.{then_act, acted_on, Kept, kept_more, kept_all, run_at}
 
@@ -50,7 +50,7 @@ index_next : (a n : ℕ) → next ((a + n) % 2 ^ 64) ≡ (a + (n + 1)) % 2 ^ 64
 index_next a n = mod-add-mod (a + n) (2 ^ 64) 1 ∙ rw add_assoc
 
 -- no word yet
-run_begins : (s : RegionStream) (l i d : ℕ) → s.phase ≡ Pile l i d → s.index < 2 ^ 64 → run_at s l i d 0 ≡ s
+run_begins : (s : RegionStream) (l i d : ℕ) → s.phase ≡ Pile (pile_of l i d) → s.index < 2 ^ 64 → run_at s l i d 0 ≡ s
 run_begins s l i d e h = rw (add-zero, mod-eq_of_lt h, ← e)
 
 -- one word more
@@ -69,7 +69,7 @@ kept-length k (w ∷ words) = kept-length (kept_more k w) words ∙ go (ltb k.de
     go true = length-set k.pile k.depth w
     go false = refl
 
-module _ (scoring : Scoring) (s : RegionStream) (l i d : ℕ) (words pile : List ℕ) (kernel cells : List Float) (long : length pile ≡ PILE) (e : s.phase ≡ Pile l i d) (small : s.index < 2 ^ 64) where
+module _ (scoring : Scoring) (s : RegionStream) (l i d : ℕ) (words pile : List ℕ) (kernel cells : List Float) (long : length pile ≡ PILE) (e : s.phase ≡ Pile (pile_of l i d)) (small : s.index < 2 ^ 64) where
   abbrev TakenSo : ℕ → Type 0
   TakenSo n = goes (seen (run_at s l i (kept_all d pile (take n words)).depth n) (kept_all d pile (take n words)).pile kernel cells) ≡ acted_on scoring (seen s pile kernel cells) (take n words)
 

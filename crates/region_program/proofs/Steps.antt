@@ -2,6 +2,7 @@
 use mathlib.Core.Path.{◌≡◌, refl, sym, ap, ◌∙◌}
 use mathlib.Core.Bool.{false, cond}
 use mathlib.Core.List.{List}
+use Rattle.std.specs.Prelude.{Ok}
 use Prim.Native.Nat.{ℕ, ◌≤◌, ◌<◌}
 use native.Mathlib.Omega.{arith}
 use borrow.Author.Tests.{le-ltb}
@@ -26,10 +27,11 @@ use Rattle.stream_settings.specs.Settings.{params_of, with_field}
 use Rattle.region_program.specs.declared.RegionStream.{RegionStream}
 use Rattle.region_program.specs.declared.Phase.{Phase}
 use Rattle.region_program.specs.declared.Phase.TheVariants.{Settings, Loci, Pile}
-use Rattle.region_program.specs.declared.Step.TheVariants.{Next, Again, Line, Refused}
+use Rattle.region_program.specs.declared.Step.TheVariants.{Next, Again, Line}
+use Rattle.region_program.specs.declared.OpenPile.{OpenPile}
 use Rattle.region_program.specs.Program.{Reading, goes, again, line, stops, next, buffer_size, profile_made, made_with, zero_size, set_by, before_loci, popped_by, between_piles}
 use Rattle.region_program.specs.Program.{Scoring, score_added, score_cells, ended_with, ended_by, within_pile, act_at, act_by}
-use Rattle.region_program.specs.Stream.{place_of, kernel_of, seen, stream_of, most_acts, acts_in, acts_left, pile_after, kernel_made, kernel_after, Stepped, EndsPile, PILE, kept}
+use Rattle.region_program.specs.Stream.{place_of, kernel_of, seen, stream_of, pile_of, refused_with, most_acts, acts_in, acts_left, pile_after, kernel_made, kernel_after, Stepped, EndsPile, PILE, kept}
 use Rattle.region_program.specs.Run.{kept_more}
 use Rattle.region_program.proofs.Counts.{fewer}
 use Rattle.region_program.proofs.Kept.{filter-popped, cells_popped, filter_scored, cells_scored}
@@ -51,7 +53,7 @@ kernel_copied t full narrow kernel p f n k m =
 module _ (scoring : Scoring) (s : RegionStream) (pile : List ℕ) (kernel cells : List Float) where
   -- a refusal leaves everything as it was
   pub refuses : (e : StreamEvent) (y : Refusal) (i : ℕ) → act_by scoring e (seen s pile kernel cells) ≡ stops (number_of y) i (seen s pile kernel cells)
-      → Stepped scoring e s pile pile kernel kernel cells cells (Refused y i s)
+      → Stepped scoring e s pile pile kernel kernel cells cells (refused_with y i s)
   refuses e y i h =
       record {
         answer = sym h;
@@ -73,16 +75,16 @@ module _ (scoring : Scoring) (s : RegionStream) (pile : List ℕ) (kernel cells 
   unfolding act_at
   at-loci e p = rw p
 
-  pub in_pile_lem : (e : StreamEvent) (l i d : ℕ) → s.phase ≡ Pile l i d → act_by scoring e (seen s pile kernel cells) ≡ within_pile scoring l i (take d pile) e (seen s pile kernel cells)
+  pub in_pile_lem : (e : StreamEvent) (o : OpenPile) → s.phase ≡ Pile o → act_by scoring e (seen s pile kernel cells) ≡ within_pile scoring o.locus o.locus_index (take o.depth pile) e (seen s pile kernel cells)
   unfolding act_at
-  in_pile_lem e l i d p = rw p
+  in_pile_lem e o p = rw p
 
   -- ---- before the first locus
 
   module _ (p : s.phase ≡ Settings) where
     pub first_opened : (position : ℕ) (q : BandPassActivityProfile) → profile_made s.settings ≡ answered q
         → Stepped scoring (Locus position) s pile pile kernel (kernel_made s.settings (profile_made s.settings) kernel) cells cells
-        (Next (stream_of s.settings q (Pile position s.index 0) (next s.index)))
+        (Ok (Next (stream_of s.settings q (Pile (pile_of position s.index 0)) (next s.index))))
     unfolding before_loci made_with pile_after kernel_after
     first_opened position q m =
         record {
@@ -93,29 +95,29 @@ module _ (scoring : Scoring) (s : RegionStream) (pile : List ℕ) (kernel cells 
         }
 
     pub first_refused : (position : ℕ) (y : Refusal) → profile_made s.settings ≡ refused (number_of y)
-        → Stepped scoring (Locus position) s pile pile kernel (kernel_made s.settings (profile_made s.settings) kernel) cells cells (Refused y s.index s)
+        → Stepped scoring (Locus position) s pile pile kernel (kernel_made s.settings (profile_made s.settings) kernel) cells cells (refused_with y s.index s)
     unfolding before_loci made_with
     first_refused position y m = rw m (refuses (Locus position) y s.index (at-settings (Locus position) p ∙ rw m))
 
     pub set_done : (field value : ℕ) (t : StreamSettings) → with_field s.settings field value ≡ answered t
-        → Stepped scoring (Setting field value) s pile pile kernel kernel cells cells (Next (stream_of t s.profile s.phase (next s.index)))
+        → Stepped scoring (Setting field value) s pile pile kernel kernel cells cells (Ok (Next (stream_of t s.profile s.phase (next s.index))))
     unfolding before_loci set_by pile_after kernel_after
     set_done field value t m = record { answer = sym (at-settings (Setting field value) p ∙ rw m); pile_left = refl; kernel_left = refl; ends = tt }
 
     pub set_refused : (field value : ℕ) (y : Refusal) → with_field s.settings field value ≡ refused (number_of y)
-        → Stepped scoring (Setting field value) s pile pile kernel kernel cells cells (Refused y s.index s)
+        → Stepped scoring (Setting field value) s pile pile kernel kernel cells cells (refused_with y s.index s)
     unfolding before_loci set_by
     set_refused field value y m = refuses (Setting field value) y s.index (at-settings (Setting field value) p ∙ rw m)
 
     pub unmade_done : (value : ℕ) → ltb 1 value ≡ false → zero_size s.settings ≡ false
-        → Stepped scoring (Pop value) s pile pile kernel kernel cells cells (Next (stream_of s.settings s.profile s.phase (next s.index)))
+        → Stepped scoring (Pop value) s pile pile kernel kernel cells cells (Ok (Next (stream_of s.settings s.profile s.phase (next s.index))))
     unfolding before_loci pile_after kernel_after
     unmade_done value v z = record { answer = sym (at-settings (Pop value) p ∙ rw (v, z)); pile_left = refl; kernel_left = refl; ends = tt }
 
   -- ---- past it, with no pile open
 
   module _ (p : s.phase ≡ Loci) where
-    pub opened_next : (position : ℕ) → Stepped scoring (Locus position) s pile pile kernel kernel cells cells (Next (stream_of s.settings s.profile (Pile position s.index 0) (next s.index)))
+    pub opened_next : (position : ℕ) → Stepped scoring (Locus position) s pile pile kernel kernel cells cells (Ok (Next (stream_of s.settings s.profile (Pile (pile_of position s.index 0)) (next s.index))))
     unfolding between_piles pile_after kernel_after
     opened_next position = record { answer = sym (at-loci (Locus position) p ∙ rw p); pile_left = refl; kernel_left = rw p; ends = tt }
 
@@ -131,7 +133,7 @@ module _ (scoring : Scoring) (s : RegionStream) (pile : List ℕ) (kernel cells 
       same-filter a e = filter-popped s.profile cells s.settings.assembly_region_extension s.settings.min_region_size s.settings.max_region_size (eqb value 1) a e
 
       pub pop_line : (r : ActivityProfileRegion) (q : BandPassActivityProfile) → answered_so ≡ region_pop r q → s.profile.count < most_acts
-          → Stepped scoring (Pop value) s pile pile kernel kernel cells left_so (Line r (stream_of s.settings q s.phase s.index))
+          → Stepped scoring (Pop value) s pile pile kernel kernel cells left_so (Ok (Line r (stream_of s.settings q s.phase s.index)))
       unfolding between_piles popped_by pile_after kernel_after
       pop_line r q e small =
           let few = fewer s.profile cells s.settings.assembly_region_extension s.settings.min_region_size s.settings.max_region_size (eqb value 1) r q e in
@@ -143,7 +145,7 @@ module _ (scoring : Scoring) (s : RegionStream) (pile : List ℕ) (kernel cells 
           }
 
       pub pop_held : (q : BandPassActivityProfile) → answered_so ≡ held_pop q
-          → Stepped scoring (Pop value) s pile pile kernel kernel cells left_so (Next (stream_of s.settings q s.phase (next s.index)))
+          → Stepped scoring (Pop value) s pile pile kernel kernel cells left_so (Ok (Next (stream_of s.settings q s.phase (next s.index))))
       unfolding between_piles popped_by pile_after kernel_after
       pop_held q e =
           record {
@@ -154,7 +156,7 @@ module _ (scoring : Scoring) (s : RegionStream) (pile : List ℕ) (kernel cells 
           }
 
       pub pop_empty : (q : BandPassActivityProfile) → answered_so ≡ empty_pop q
-          → Stepped scoring (Pop value) s pile pile kernel kernel cells left_so (Next (stream_of s.settings q s.phase (next s.index)))
+          → Stepped scoring (Pop value) s pile pile kernel kernel cells left_so (Ok (Next (stream_of s.settings q s.phase (next s.index))))
       unfolding between_piles popped_by pile_after kernel_after
       pop_empty q e =
           record {
@@ -165,7 +167,7 @@ module _ (scoring : Scoring) (s : RegionStream) (pile : List ℕ) (kernel cells 
           }
 
       pub pop_refused : (y : Refusal) (q : BandPassActivityProfile) → answered_so ≡ refused_pop (number_of y) q
-          → Stepped scoring (Pop value) s pile pile kernel kernel cells left_so (Refused y s.index s)
+          → Stepped scoring (Pop value) s pile pile kernel kernel cells left_so (refused_with y s.index s)
       unfolding between_piles popped_by
       pop_refused y q e =
           rw (cells_popped s.profile cells s.settings.assembly_region_extension s.settings.min_region_size s.settings.max_region_size (eqb value 1) (number_of y) q e)
@@ -173,33 +175,33 @@ module _ (scoring : Scoring) (s : RegionStream) (pile : List ℕ) (kernel cells 
 
   -- ---- within a pile
 
-  module _ (l i d : ℕ) (p : s.phase ≡ Pile l i d) where
+  module _ (o : OpenPile) (p : s.phase ≡ Pile o) where
     pub observed_next : (w : ℕ) → length pile ≡ PILE
-        → Stepped scoring (Observation w) s pile (kept pile d w) kernel kernel cells cells
-        (Next (stream_of s.settings s.profile (Pile l i (kept_more (record { depth = d; pile = pile }) w).depth) (next s.index)))
+        → Stepped scoring (Observation w) s pile (kept pile o.depth w) kernel kernel cells cells
+        (Ok (Next (stream_of s.settings s.profile (Pile (pile_of o.locus o.locus_index (kept_more (record { depth = o.depth; pile = pile }) w).depth)) (next s.index))))
     unfolding within_pile pile_after kernel_after
     observed_next w long =
-        record { answer = rw (kept-deepened pile w d long) (sym (in_pile_lem (Observation w) l i d p ∙ rw p)); pile_left = rw p; kernel_left = refl; ends = tt }
+        record { answer = rw (kept-deepened pile w o.depth long) (sym (in_pile_lem (Observation w) o p ∙ rw p)); pile_left = rw p; kernel_left = refl; ends = tt }
 
     abbrev scored_so : Outcome BandPassActivityProfile
-    scored_so = score_added s.profile cells (take (band s.profile.filter_size) kernel) (scoring l (take d pile))
+    scored_so = score_added s.profile cells (take (band s.profile.filter_size) kernel) (scoring o.locus (take o.depth pile))
 
     abbrev scored_cells : List Float
-    scored_cells = score_cells s.profile cells (take (band s.profile.filter_size) kernel) (scoring l (take d pile))
+    scored_cells = score_cells s.profile cells (take (band s.profile.filter_size) kernel) (scoring o.locus (take o.depth pile))
 
     pub ended_again : (q : BandPassActivityProfile) → scored_so ≡ answered q
-        → EndsPile scoring s l i d pile kernel cells scored_cells (Again (stream_of s.settings q Loci s.index))
+        → EndsPile scoring s o pile kernel cells scored_cells (Ok (Again (stream_of s.settings q Loci s.index)))
     unfolding ended_by ended_with
     ended_again q e =
-        let same = filter_scored s.profile cells (take (band s.profile.filter_size) kernel) (scoring l (take d pile)) q e in
+        let same = filter_scored s.profile cells (take (band s.profile.filter_size) kernel) (scoring o.locus (take o.depth pile)) q e in
         record {
           answer = ap (λ (f : ℕ). again (filtered q Loci scored_cells s.index f)) same ∙ rw (p, e);
           ends = rw p (omega arith);
         }
 
-    pub ended_refused : (y : Refusal) → scored_so ≡ refused (number_of y) → EndsPile scoring s l i d pile kernel cells scored_cells (Refused y i s)
+    pub ended_refused : (y : Refusal) → scored_so ≡ refused (number_of y) → EndsPile scoring s o pile kernel cells scored_cells (refused_with y o.locus_index s)
     unfolding ended_by ended_with
-    ended_refused y e = rw (cells_scored s.profile cells (take (band s.profile.filter_size) kernel) (scoring l (take d pile)) (number_of y) e) (record { answer = rw (p, e); ends = refl })
+    ended_refused y e = rw (cells_scored s.profile cells (take (band s.profile.filter_size) kernel) (scoring o.locus (take o.depth pile)) (number_of y) e) (record { answer = rw (p, e); ends = refl })
 
 -- ---- the end of a caller's loop
 
@@ -209,4 +211,4 @@ acts_few s = go s.phase s.profile.count
     go : (x : Phase) (n : ℕ) → acts_in x n ≤ most_acts
     go Settings n = omega arith
     go Loci n = omega arith
-    go (Pile p i d) n = omega arith
+    go (Pile o) n = omega arith

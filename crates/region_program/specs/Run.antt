@@ -9,7 +9,7 @@ use Rattle.region_program.specs.declared.Observed.{Observed}
 use Rattle.region_program.specs.declared.Phase.{Phase}
 use Rattle.region_program.specs.declared.Phase.TheVariants.{Settings, Loci, Pile}
 use Rattle.region_program.specs.Program.{Scoring, Reading, Answer, goes, again, line, stops, act_by}
-use Rattle.region_program.specs.Stream.{seen, stream_of, kept, acts_left}
+use Rattle.region_program.specs.Stream.{seen, stream_of, pile_of, kept, acts_left}
 
 -- a word that is no observation
 abbrev pub is_other : ℕ → Bool
@@ -19,7 +19,7 @@ is_other w = not (is_observation w)
 abbrev pub taken_of : Phase → List ℕ → ℕ
 taken_of Settings words = 0
 taken_of Loci words = 0
-taken_of (Pile p i depth) words = first_at is_other words
+taken_of (Pile o) words = first_at is_other words
 
 -- the next word is acted on where the ones before were done
 abbrev pub then_act : Scoring → Answer → ℕ → Answer
@@ -51,11 +51,11 @@ kept_all depth pile words = fold kept_more (record { depth = depth; pile = pile 
 abbrev pub pile_run : Phase → List ℕ → List ℕ → List ℕ
 pile_run Settings words pile = pile
 pile_run Loci words pile = pile
-pile_run (Pile p i depth) words pile = (kept_all depth pile words).pile
+pile_run (Pile o) words pile = (kept_all o.depth pile words).pile
 
 -- the stream n words further in a pile
 abbrev pub run_at : RegionStream → ℕ → ℕ → ℕ → ℕ → RegionStream
-run_at s locus i depth n = stream_of s.settings s.profile (Pile locus i depth) ((s.index + n) % 2 ^ 64)
+run_at s locus i depth n = stream_of s.settings s.profile (Pile (pile_of locus i depth)) ((s.index + n) % 2 ^ 64)
 
 -- what taking the observations at the front of some words promises: how many they are, and that the state and the pile are as acting on each of them in turn
 -- leaves them, however piles are scored

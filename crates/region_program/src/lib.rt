@@ -2,6 +2,10 @@
 // and its laws. The functions that act on events stand above, in stream_profile, observation_runs and region_stream.
 #![tactic(auto)]
 
+ghost use Rattle.std.specs.Prelude.{◌≡◌, replicate};
+ghost use Rattle.doubles.specs.Constants.{zero_f};
+ghost use Rattle.region_program.specs.declared.TheConstants.{PILE, KERNEL, CELLS, TABLE, PRIORS};
+
 use activity_profile::{ActivityProfileRegion, BandPassActivityProfile};
 use genome::Refusal;
 use stream_settings::StreamSettings;
@@ -23,6 +27,29 @@ pub const PRIORS: usize = 6;
 // The one contig of a stream.
 pub const CONTIG: u32 = 0;
 
+// What is lent to a stream beside its state: the pile that is being read, its kernel, and its cells.
+#[derive(Drop)]
+pub struct StreamMemory {
+    pub pile: [u32; PILE],
+    pub kernel: [f64; KERNEL],
+    pub cells: [f64; CELLS],
+}
+
+// The tables that piles are scored by, lent to a stream too.
+#[derive(Drop)]
+pub struct StreamTables {
+    pub contributions: [f64; TABLE],
+    pub priors: [f64; PRIORS],
+}
+
+// The pile of a locus that is being read: its position, the index of its word, and how many of its observations are kept.
+#[derive(Clone, Copy)]
+pub struct OpenPile {
+    pub locus: u32,
+    pub locus_index: u64,
+    pub depth: usize,
+}
+
 // Where in its events the stream is.
 #[derive(Clone, Copy)]
 pub enum Phase {
@@ -30,12 +57,8 @@ pub enum Phase {
     Settings,
     // Past the first locus, with no pile open.
     Loci,
-    // Within the pile of a locus: its position, the index of its word, and how many of its observations are kept.
-    Pile {
-        locus: u32,
-        locus_index: u64,
-        depth: usize,
-    },
+    // Within the pile of a locus.
+    Pile(OpenPile),
 }
 
 // What the events so far have left, and the index of the next word. The profile is looked at past the first locus alone.
@@ -47,7 +70,7 @@ pub struct RegionStream {
     pub index: u64,
 }
 
-// What acting on an event answers, with the state that it leaves.
+// What acting on an event that is not refused answers, with the state that it leaves.
 #[derive(Clone, Copy)]
 pub enum Step {
     // The next event may come.
@@ -56,8 +79,20 @@ pub enum Step {
     Again(RegionStream),
     // A region to print; the same event is to be acted on again.
     Line(ActivityProfileRegion, RegionStream),
-    // A refusal to print, with the index of the word that it names: it ends the program. The state is the one that was given.
-    Refused(Refusal, u64, RegionStream),
+}
+
+// A refusal to print, with the index of the word that it names: it ends the program.
+#[derive(Clone, Copy)]
+pub struct StreamRefusal {
+    pub refusal: Refusal,
+    pub index: u64,
+}
+
+// An event that is refused: why, and the state as it was given.
+#[derive(Clone, Copy)]
+pub struct RefusedStep {
+    pub why: StreamRefusal,
+    pub stream: RegionStream,
 }
 
 // What a run of observations leaves: the state after them, and how many they are.
@@ -65,4 +100,32 @@ pub enum Step {
 pub struct Observed {
     pub stream: RegionStream,
     pub taken: usize,
+}
+
+impl StreamMemory {
+    // Memory that nothing was written to.
+    pub fn new() -> StreamMemory
+        ensures pile_value { result.pile ≡ replicate PILE 0 }
+        ensures kernel_value { result.kernel ≡ replicate KERNEL zero_f }
+        ensures cells_value { result.cells ≡ replicate CELLS zero_f }
+    {
+        StreamMemory {
+            pile: [0; PILE],
+            kernel: [0.0; KERNEL],
+            cells: [0.0; CELLS],
+        }
+    }
+}
+
+impl StreamTables {
+    // Tables that are not filled yet.
+    pub fn new() -> StreamTables
+        ensures contributions_value { result.contributions ≡ replicate TABLE zero_f }
+        ensures priors_value { result.priors ≡ replicate PRIORS zero_f }
+    {
+        StreamTables {
+            contributions: [0.0; TABLE],
+            priors: [0.0; PRIORS],
+        }
+    }
 }
