@@ -16,7 +16,6 @@ use Rattle.region_program.specs.declared.Phase.{Phase}
 use Rattle.region_program.specs.declared.Phase.TheVariants.{Settings, Loci, Pile}
 use Rattle.region_program.specs.declared.Step.{Step}
 use Rattle.region_program.specs.declared.Step.TheVariants.{Next, Again, Line}
-use Rattle.region_program.specs.declared.StreamRefusal.{StreamRefusal}
 use Rattle.region_program.specs.declared.RefusedStep.{RefusedStep}
 use Rattle.region_program.specs.declared.OpenPile.{OpenPile}
 use Rattle.region_program.specs.Program.{Place, at_settings, at_loci, in_pile, Reading, Answer, goes, again, line, stops, profile_made, Scoring, ended_by, act_by}
