@@ -5,10 +5,10 @@ use Prim.Native.Nat.{ℕ, zero, suc, ◌+◌, ◌-◌, ◌/◌, ◌%◌, ◌≤�
 use native.Mathlib.Omega.{arith}
 use native.Mathlib.Numerals.{sub-one}
 use borrow.Author.Tests.{lt-ltb, le-ltb}
-use lib.ListN.{length, take, drop, set, length-set, drop_of_length-le}
-use lib.Seq.{take-take, take-set-le, drop-cons, drop-set-lt, get_or-set_same}
+use lib.ListN.{length, take, drop, drop_of_length-le}
+use lib.Seq.{take-take}
 use Rattle.region_text.specs.Text.{digit, digits_onto}
-use Rattle.region_text.specs.Writing.{Writes, byte_onto}
+use Rattle.region_text.specs.Writing.{Writes}
 
 -- f of the text, then g of that
 pub both : (k l : ℕ) (f g : List ℕ → List ℕ) (old : List ℕ) (at : ℕ) (mid : List ℕ) (m : ℕ) (new : List ℕ) (r : ℕ)
@@ -22,10 +22,6 @@ both k l f g old at mid m new r a b =
       few = omega (arith, a.few, b.few);
     }
 
--- a larger bound
-pub within : (k l : ℕ) (f : List ℕ → List ℕ) (old : List ℕ) (at : ℕ) (new : List ℕ) (r : ℕ) → k ≤ l → Writes k f old at new r → Writes l f old at new r
-within k l f old at new r h a = record { text = a.text; front = a.front; same = a.same; low = a.low; few = omega (arith, a.few) }
-
 -- the same bytes said in another way
 pub said : (k l : ℕ) (f g : List ℕ → List ℕ) (old : List ℕ) (at : ℕ) (new : List ℕ) (r : ℕ) → k ≤ l → drop r new ≡ g (drop at old) → Writes k f old at new r → Writes l g old at new r
 said k l f g old at new r h e a = record { text = e; front = a.front; same = a.same; low = a.low; few = omega (arith, a.few) }
@@ -33,23 +29,6 @@ said k l f g old at new r h e a = record { text = e; front = a.front; same = a.s
 -- nothing stands after a buffer's end
 pub nothing_after : (old : List ℕ) (at : ℕ) → length old ≤ at → drop at old ≡ []
 nothing_after old at h = drop_of_length-le old h
-
--- one byte, set before `at`
-drop-set : (old : List ℕ) (i b : ℕ) → i < length old → drop i (set old i b) ≡ b ∷ drop (suc i) old
-drop-set old i b h =
-    let long : i < length (set old i b) = rw length-set h in
-    drop-cons (set old i b) i 0 long ∙ ap (λ x. x ∷ drop (suc i) (set old i b)) (get_or-set_same old i b 0 h) ∙ ap (λ t. b ∷ t) (drop-set-lt (suc i) old i b (omega arith))
-
-pub byte_writes : (at b : ℕ) (old : List ℕ) → 1 ≤ at → at ≤ length old → Writes 1 (byte_onto b) old at (set old (at - 1) b) (at - 1)
-byte_writes at b old h k =
-    let e : suc (at - 1) ≡ at = omega arith in
-    record {
-      text = drop-set old (at - 1) b (omega arith) ∙ ap (λ n. b ∷ drop n old) e;
-      front = take-set-le (at - 1) old (at - 1) b (omega arith);
-      same = length-set old (at - 1) b;
-      low = omega arith;
-      few = omega arith;
-    }
 
 -- ---- the digits of a number
 

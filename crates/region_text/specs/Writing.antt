@@ -13,6 +13,3 @@ pub record Writes (k : ℕ) (f : List ℕ → List ℕ) (old : List ℕ) (at : �
 -- a byte before a text
 abbrev pub byte_onto : ℕ → List ℕ → List ℕ
 byte_onto b t = b ∷ t
-
-abbrev pub four_onto : ℕ → ℕ → ℕ → ℕ → List ℕ → List ℕ
-four_onto b1 b2 b3 b4 t = b1 ∷ b2 ∷ b3 ∷ b4 ∷ t

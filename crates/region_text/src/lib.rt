@@ -6,14 +6,17 @@
 
 ghost use Rattle.std.specs.Prelude.{◌≡◌, ◌+◌, ◌≤◌, length, drop, take};
 ghost use Rattle.genome.specs.Refusals.{number_of};
-ghost use Rattle.region_text.specs.Text.{decimal, flag, number_onto, line_onto, refusal_onto, line_text, refusal_text, refused_word};
-ghost use Rattle.region_text.specs.Writing.{Writes, byte_onto, four_onto};
+ghost use Rattle.region_text.specs.Text.{decimal, number_onto, line_onto, refusal_onto, line_text, refusal_text, refused_word};
+ghost use Rattle.region_text.specs.Writing.{Writes, byte_onto};
 
 use activity_profile::ActivityProfileRegion;
 use genome::Refusal;
 
 // Room for the text of a line: five numbers of at most 20 digits, a blank or the line feed after each.
 pub const TEXT: usize = 105;
+
+// The most digits of a 64-bit number.
+const DIGITS: usize = 20;
 
 const BLANK: u8 = b' ';
 
@@ -41,11 +44,11 @@ fn line_in(region: ActivityProfileRegion, text: &mut [u8]) -> usize
     requires { length text.old ≡ 105 }
     ensures { Writes 105 (line_onto region) text.old 105 text.new result }
 {
-    let end = number(text, TEXT, LINE_FEED, region.padded_end as u64);
-    let low = number(text, end, BLANK, region.padded_start as u64);
-    let flag = number(text, low, BLANK, flag_of(region.is_active));
-    let last = number(text, flag, BLANK, region.end as u64);
-    number(text, last, BLANK, region.start as u64)
+    let end = number(text, TEXT, LINE_FEED, u64::from(region.padded_end));
+    let low = number(text, end, BLANK, u64::from(region.padded_start));
+    let flag = number(text, low, BLANK, u64::from(region.is_active));
+    let last = number(text, flag, BLANK, u64::from(region.end));
+    number(text, last, BLANK, u64::from(region.start))
 }
 
 fn refusal_in(why: Refusal, index: u64, text: &mut [u8]) -> usize
@@ -53,7 +56,7 @@ fn refusal_in(why: Refusal, index: u64, text: &mut [u8]) -> usize
     ensures { Writes 105 (refusal_onto (number_of why) index) text.old 105 text.new result }
 {
     let last = number(text, TEXT, LINE_FEED, index);
-    let first = number(text, last, BLANK, why.number() as u64);
+    let first = number(text, last, BLANK, u64::from(why.number()));
     refused(text, first)
 }
 
@@ -62,25 +65,8 @@ fn refused(text: &mut [u8], at: usize) -> usize
     requires { (8 ≤ at) × (at ≤ length text.old) }
     ensures { Writes 8 refused_word text.old at text.new result }
 {
-    let half = four(text, at, b's', b'e', b'd', BLANK);
-    four(text, half, b'r', b'e', b'f', b'u')
-}
-
-// Four bytes, before the text from `at` on.
-fn four(text: &mut [u8], at: usize, b1: u8, b2: u8, b3: u8, b4: u8) -> usize
-    requires { (4 ≤ at) × (at ≤ length text.old) }
-    ensures { Writes 4 (four_onto b1 b2 b3 b4) text.old at text.new result }
-{
-    let p4 = byte(text, at, b4);
-    let p3 = byte(text, p4, b3);
-    let p2 = byte(text, p3, b2);
-    byte(text, p2, b1)
-}
-
-fn flag_of(active: bool) -> u64
-    ensures { result ≡ flag active }
-{
-    if active { 1 } else { 0 }
+    text[at - 8..at].copy_from_slice(b"refused ");
+    at - 8
 }
 
 // A number in decimal and the byte after it, before the text from `at` on.
@@ -99,14 +85,12 @@ fn digits(text: &mut [u8], at: usize, n: u64) -> usize
 {
     let mut p = at;
     let mut rest = n;
-    let mut k = 20u32;
-    while k > 0 {
+    for _ in 0..DIGITS {
         if rest < 10 {
             return byte(text, p, b'0' + rest as u8);
         }
         p = byte(text, p, b'0' + (rest % 10) as u8);
-        rest = rest / 10;
-        k -= 1;
+        rest /= 10;
     }
     p
 }

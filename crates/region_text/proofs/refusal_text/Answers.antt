@@ -1,16 +1,12 @@
 -- `refusal_text` meets its contract: nothing stands after the text.
-use Rattle.region_text.proofs.Writing.{nothing_after}
+use Rattle.std.proofs.Common.{◌≡◌, ◌∙◌, ap, length, arith, rules}
 use Rattle.region_text.specs.Text.{refusal_onto, refusal_text}
-use borrow.Author.Rules.{rules}
-use lib.ListN.{length}
-use mathlib.Core.Path.{◌∙◌, ◌≡◌, ap}
-use native.Mathlib.Omega.{arith}
+use Rattle.region_text.proofs.Writing.{nothing_after}
 use Rattle.region_text.proofs.refusal_text.Goals as goal
 
-pub returns : goal.returns
+pub returns-clause-text_after : goal.returns-clause-text_after
 unfolding refusal_text
-returns c =
-    let w = c.refusal_in.ensures in
+returns-clause-text_after c =
     let text = c.args.text.now in
     let long : length text ≡ 105 = search rules in
-    record { text_after = w.text ∙ ap (refusal_onto _ _) (nothing_after text 105 (omega arith)); text_unchanged = w.front; upper_bound = w.low }
+    c.refusal_in.ensures.text ∙ ap (refusal_onto _ _) (nothing_after text 105 (omega arith))
