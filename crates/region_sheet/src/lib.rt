@@ -3,7 +3,7 @@
 #![tactic(auto)]
 
 ghost use Rattle.std.specs.Prelude.{◌≡◌, ◌++◌, ◌+◌, ◌≤◌, drop, take, replicate};
-ghost use Rattle.region_text.specs.Text.{blank, digit, flag};
+ghost use Rattle.region_text.specs.Text.{blank};
 ghost use Rattle.region_sheet.specs.Row.{row_text, right_aligned, position_columns};
 ghost use Rattle.region_sheet.specs.Pages.{rows_after};
 
@@ -43,16 +43,10 @@ pub fn row_text(
     row[LAST] = b'\n';
     column(&mut row, PADDED_END, padded_end);
     column(&mut row, PADDED_START, padded_start);
-    row[FLAG] = flag_digit(is_active);
+    row[FLAG] = b'0' + u8::from(is_active);
     column(&mut row, END, end);
     column(&mut row, START, start);
     row
-}
-
-fn flag_digit(active: bool) -> u8
-    ensures { result ≡ digit (flag active) }
-{
-    if active { b'1' } else { b'0' }
 }
 
 // Writes n right-aligned into the ten columns from `from` on, the last digit first. All up to their end is blank before.
@@ -63,16 +57,17 @@ fn column(row: &mut [u8; ROW], from: usize, n: u32)
         ≡ replicate from blank ++ (right_aligned position_columns n ++ drop (from + position_columns) row.old) }
 {
     let mut rest = n;
-    let mut k = COLUMNS;
-    while rest >= 10 {
-        k -= 1;
-        row[from + k] = b'0' + (rest % 10) as u8;
-        rest = rest / 10;
+    for k in 0..COLUMNS {
+        row[from + COLUMNS - 1 - k] = b'0' + (rest % 10) as u8;
+        rest /= 10;
+        if rest == 0 {
+            return;
+        }
     }
-    row[from + k - 1] = b'0' + rest as u8;
 }
 
 // How many rows stand on a page after one more: none where that was its last, and a form feed stands behind it.
+#[tactic(auto, using(std::proofs::lemmas::Bool::Decides::nat_tests))]
 pub fn rows_after(rows: u32) -> u32
     ensures { result ≡ rows_after rows }
 {
