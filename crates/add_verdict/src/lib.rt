@@ -8,10 +8,10 @@ ghost use Rattle.activity_profile.specs.Verdict.{verdict_of};
 
 use activity_profile::{ActivityProfileState, BandPassActivityProfile};
 use genome::Refusal;
-use numbers::{greater, lesser, monus};
 use profile_record::is_broken;
 
 // The first refusal that applies to an add, in document 01's order, with so many cells and a kernel of so many entries lent.
+#[tactic(auto, using(std::proofs::lemmas::Bool::Decides::nat_tests), unfolding(activity_profile::specs::Add::add_verdict))]
 pub fn add_verdict(
     p: BandPassActivityProfile,
     state: ActivityProfileState,
@@ -46,22 +46,21 @@ fn is_broken_add(p: BandPassActivityProfile, cells: usize, kernel: usize) -> boo
     ensures { result ≡ broken_add p cells kernel }
 {
     let broken = is_broken(p, cells);
-    broken | !(kernel as u64 == 2 * (p.filter_size as u64) + 1)
+    broken | (kernel as u64 != 2 * u64::from(p.filter_size) + 1)
 }
 
 // Refusal 6.
 fn is_other_contig(p: BandPassActivityProfile, s: ActivityProfileState) -> bool
     ensures { result ≡ other_contig p s }
 {
-    !(s.contig == p.contig)
+    s.contig != p.contig
 }
 
 // Refusal 7.
 fn is_off_contig(p: BandPassActivityProfile, s: ActivityProfileState) -> bool
     ensures { result ≡ off_contig p s }
 {
-    let q = s.pos;
-    (q.0 == 0) | (p.contig_len < q.0)
+    (s.pos.0 == 0) | (p.contig_len < s.pos.0)
 }
 
 // Refusal 8. A NaN is no probability.
@@ -75,46 +74,43 @@ fn is_no_activity(s: ActivityProfileState) -> bool
 fn is_not_next(p: BandPassActivityProfile, s: ActivityProfileState) -> bool
     ensures { result ≡ not_next p s }
 {
-    let q = s.pos;
-    (0 < p.count) & !(q.0 as u64 == p.last_input_pos as u64 + 1)
+    (0 < p.count) & (u64::from(s.pos.0) != u64::from(p.last_input_pos) + 1)
 }
 
 // Refusal 10.
 fn lacks_cells(p: BandPassActivityProfile, s: ActivityProfileState, cells: usize) -> bool
     ensures { result ≡ ltb cells (needed p s) }
 {
-    let n = cells_after(p, s);
-    (cells as u64) < n
+    (cells as u64) < cells_after(p, s)
 }
 
 // The cells in use after the add.
+#[tactic(auto, unfolding(activity_profile::specs::Add::needed))]
 pub fn cells_after(p: BandPassActivityProfile, s: ActivityProfileState) -> u64
     ensures { result ≡ needed p s }
 {
-    let first = first_locus(p, s);
-    let high = highest_of(p, s);
-    let reach = monus(high, first as u64);
-    greater(p.count as u64, reach + 1)
+    let reach = highest_of(p, s).saturating_sub(u64::from(first_locus(p, s)));
+    u64::from(p.count).max(reach + 1)
 }
 
 // The region start, first set to the locus where the count is 0.
+#[tactic(auto, using(std::proofs::lemmas::Bool::Decides::nat_tests), unfolding(activity_profile::specs::Add::first_locus))]
 pub fn first_locus(p: BandPassActivityProfile, s: ActivityProfileState) -> u32
     ensures { result ≡ first_locus p s }
 {
-    let q = s.pos;
     if p.count == 0 {
-        return q.0;
+        return s.pos.0;
     }
     p.region_start
 }
 
 // The highest position that receives.
+#[tactic(auto, unfolding(activity_profile::specs::Add::highest))]
 pub fn highest_of(p: BandPassActivityProfile, s: ActivityProfileState) -> u64
     ensures { (result ≡ highest p s) × (result ≤ 4294967295) }
 {
-    let q = s.pos;
     if s.active_prob > 0.0 {
-        return lesser(p.contig_len as u64, q.0 as u64 + p.filter_size as u64);
+        return u64::from(p.contig_len).min(u64::from(s.pos.0) + u64::from(p.filter_size));
     }
-    q.0 as u64
+    u64::from(s.pos.0)
 }

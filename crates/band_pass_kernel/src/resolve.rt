@@ -66,9 +66,9 @@ impl BandPassActivityProfileParams {
     fn in_range(self) -> bool
         ensures { result ≡ in_range self }
     {
-        (0..=Self::MAX_PROPAGATION_DISTANCE).contains(&self.max_prob_propagation_distance)
+        (self.max_prob_propagation_distance <= Self::MAX_PROPAGATION_DISTANCE)
             & numbers::within_f64(0.0, self.active_prob_threshold, 1.0)
-            & (0..=Self::MAX_FILTER_SIZE).contains(&self.max_filter_size)
+            & (self.max_filter_size <= Self::MAX_FILTER_SIZE)
             & numbers::within_f64(Self::MIN_SIGMA, self.sigma, Self::MAX_SIGMA)
     }
 

@@ -1,5 +1,5 @@
 // The cells that a maker must provide (document 02, U5).
-ghost use Rattle.std.specs.Prelude.{◌≡◌, min};
+ghost use Rattle.std.specs.Prelude.{◌≡◌};
 ghost use Rattle.genome.specs.Refusals.{outcome_of};
 ghost use Rattle.activity_profile.specs.Cells.{sizes_in_range, cells_needed};
 
@@ -26,31 +26,17 @@ pub fn cells_needed(
     if max_region_size == 0 {
         return Err(Refusal::ZeroSize);
     }
-    let formula = max_region_size as u64
-        + max_prob_propagation_distance as u64
-        + 2 * (filter_size as u64);
-    Ok(at_most(contig_len, formula))
+    let formula = u64::from(max_region_size)
+        + u64::from(max_prob_propagation_distance)
+        + 2 * u64::from(filter_size);
+    Ok(u64::from(contig_len).min(formula) as u32)
 }
 
 // Whether distance, filter size and contig length are in their ranges.
 fn are_in_range(distance: u32, filter: u32, len: u32) -> bool
     ensures { result ≡ sizes_in_range distance filter len }
 {
-    numbers::within_u32(
-        0,
-        distance,
-        BandPassActivityProfileParams::MAX_PROPAGATION_DISTANCE,
-    ) & numbers::within_u32(0, filter, BandPassActivityProfileParams::MAX_FILTER_SIZE)
-        & numbers::within_u32(1, len, genome::MAX_POSITION)
-}
-
-// The smaller of the two. The formula may pass 32 bits, the contig length does not.
-fn at_most(len: u32, formula: u64) -> u32
-    ensures { result ≡ min len formula }
-{
-    if formula < len as u64 {
-        formula as u32
-    } else {
-        len
-    }
+    (distance <= BandPassActivityProfileParams::MAX_PROPAGATION_DISTANCE)
+        & (filter <= BandPassActivityProfileParams::MAX_FILTER_SIZE)
+        & (1..=genome::MAX_POSITION).contains(&len)
 }
