@@ -6,6 +6,7 @@ ghost use Rattle.genotype_likelihoods.specs.Contribution.{log10_whole, contribut
 use genome::Ploidy;
 
 // log10 of the likelihood of the read under a genotype with `genotype` copies of the alternate of `ploidy`, times the ploidy.
+#[tactic(auto, using(std::proofs::lemmas::Bool::Decides::nat_tests), unfolding(crate::specs::Contribution::contribution_of))]
 pub fn genotype_contribution(qual: u8, is_alt: bool, genotype: usize, ploidy: Ploidy) -> f64
     ensures { result ≡ contribution_of qual is_alt genotype ploidy.0 }
 {
@@ -21,12 +22,13 @@ pub fn genotype_contribution(qual: u8, is_alt: bool, genotype: usize, ploidy: Pl
     if i == n {
         return non_ref_likelihood + log10_whole(n);
     }
-    let r = reference_likelihood + log10_whole(numbers::monus(n, i));
+    let r = reference_likelihood + log10_whole(n.saturating_sub(i));
     let a = non_ref_likelihood + log10_whole(i);
     log10_sums::approximate_log10_sum_log10_pair(r, a)
 }
 
 // The probability that a base of this quality is wrong.
+#[tactic(auto, unfolding(crate::specs::Contribution::error_prob))]
 pub fn error_prob(qual: u8) -> f64
     ensures { result ≡ error_prob qual }
 {
@@ -34,6 +36,7 @@ pub fn error_prob(qual: u8) -> f64
 }
 
 // log10 of the probability that a base of this quality is right.
+#[tactic(auto, unfolding(crate::specs::Contribution::qual_to_prob_log10))]
 fn qual_to_prob_log10(qual: u8) -> f64
     ensures { result ≡ qual_to_prob_log10 qual }
 {
@@ -41,6 +44,7 @@ fn qual_to_prob_log10(qual: u8) -> f64
 }
 
 // log10 of the probability that it is one certain wrong base, of three.
+#[tactic(auto, unfolding(crate::specs::Contribution::qual_to_error_prob_log10_third))]
 fn qual_to_error_prob_log10_third(qual: u8) -> f64
     ensures { result ≡ qual_to_error_prob_log10_third qual }
 {

@@ -13,6 +13,7 @@ use pileup_words::PileupObservation;
 
 // Writes the log10 likelihoods of the genotypes over the lent slice, entry i for i copies of the alternate; the Rust's
 // have ploidy + 1 entries.
+#[tactic(auto, unfolding(crate::specs::Likelihoods::likelihoods))]
 pub fn calc_ref_vs_any_log10_genotype_likelihoods(
     gl: &mut [f64],
     pile: &[u32],
@@ -20,21 +21,11 @@ pub fn calc_ref_vs_any_log10_genotype_likelihoods(
 )
     ensures { gl.new ≡ likelihoods params (length gl.old) pile.now }
 {
-    clear(gl);
+    gl.fill(0.0);
     let read_count = take_words(gl, pile, params);
     let p = params.sample_ploidy;
     let denom = std::num::nearest_u64_to_f64(read_count) * elementary::log10(p.0 as f64);
     subtract(gl, denom);
-}
-
-fn clear(gl: &mut [f64])
-    ensures { gl.new ≡ replicate (length gl.old) zero_f }
-{
-    let mut i = 0;
-    while i < gl.len() {
-        gl[i] = 0.0;
-        i += 1;
-    }
 }
 
 // Adds each word in turn. Answers how many were not skipped.
@@ -43,15 +34,14 @@ fn take_words(gl: &mut [f64], pile: &[u32], params: HaplotypeCallerActivityScori
     ensures gl_after { gl.new ≡ fold (taken params) gl.old pile.now }
 {
     let mut n = 0;
-    let mut i = 0;
-    while i < pile.len() {
-        n = take_word(gl, n, pile[i], params);
-        i += 1;
+    for w in pile {
+        n = take_word(gl, n, *w, params);
     }
     n
 }
 
 // One word: skipped, or added to every genotype.
+#[tactic(auto, unfolding(crate::specs::Likelihoods::taken, crate::specs::Likelihoods::counted))]
 fn take_word(gl: &mut [f64], n: u64, w: u32, params: HaplotypeCallerActivityScoringParams) -> u64
     requires { n < 18446744073709551615 }
     ensures value { result ≡ counted params n w }
@@ -82,11 +72,8 @@ pub fn weight_of(is_alt: bool, params: HaplotypeCallerActivityScoringParams) -> 
 fn gain(gl: &mut [f64], qual: u8, is_alt: bool, weight: f64, ploidy: Ploidy)
     ensures { gl.new ≡ each (gained qual is_alt weight ploidy.0) gl.old }
 {
-    let mut i = 0;
-    while i < gl.len() {
-        let t = genotype_contribution(qual, is_alt, i, ploidy);
-        gl[i] = gl[i] + weight * t;
-        i += 1;
+    for (i, x) in gl.iter_mut().enumerate() {
+        *x = *x + weight * genotype_contribution(qual, is_alt, i, ploidy);
     }
 }
 
@@ -94,9 +81,7 @@ fn gain(gl: &mut [f64], qual: u8, is_alt: bool, weight: f64, ploidy: Ploidy)
 pub fn subtract(gl: &mut [f64], denom: f64)
     ensures { gl.new ≡ each (less denom) gl.old }
 {
-    let mut i = 0;
-    while i < gl.len() {
-        gl[i] = gl[i] - denom;
-        i += 1;
+    for x in gl.iter_mut() {
+        *x = *x - denom;
     }
 }

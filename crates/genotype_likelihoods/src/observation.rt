@@ -6,6 +6,7 @@ use crate::HaplotypeCallerActivityScoringParams;
 use pileup_words::PileupObservation;
 
 // The quality that counts: a deletion takes the deletion quality.
+#[tactic(auto, unfolding(crate::specs::Observation::effective_qual))]
 pub fn effective_qual(obs: PileupObservation, params: HaplotypeCallerActivityScoringParams) -> u8
     ensures { result ≡ effective_qual params obs }
 {
@@ -18,6 +19,7 @@ pub fn effective_qual(obs: PileupObservation, params: HaplotypeCallerActivitySco
 
 // Whether an observation of that effective quality is skipped: below the minimum or missing, and no deletion unless the
 // flow model is on.
+#[tactic(auto, unfolding(crate::specs::Observation::skips))]
 pub fn skip_observation(
     obs: PileupObservation,
     qual: u8,

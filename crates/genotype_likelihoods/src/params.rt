@@ -37,37 +37,17 @@ impl HaplotypeCallerActivityScoringParams {
 
     pub const MAX_ALT_MULTIPLIER: f64 = 1024.0;
 
-    // The Rust's defaults.
-    pub fn default() -> HaplotypeCallerActivityScoringParams
-        ensures { result ≡ defaults }
-    {
-        HaplotypeCallerActivityScoringParams {
-            min_base_quality_score: Self::DEFAULT_MIN_BASE_QUALITY_SCORE,
-            sample_ploidy: Ploidy(Self::DEFAULT_SAMPLE_PLOIDY),
-            snp_heterozygosity: Self::DEFAULT_SNP_HETEROZYGOSITY,
-            heterozygosity_standard_deviation: Self::DEFAULT_HETEROZYGOSITY_STANDARD_DEVIATION,
-            ref_model_deletion_qual: Self::REF_MODEL_DELETION_QUAL,
-            active_region_alt_multiplier: Self::DEFAULT_ALT_MULTIPLIER,
-            flow_based_reference_model: false,
-        }
-    }
-
     // Whether each setting is in its range.
+    #[tactic(auto, unfolding(crate::specs::Settings::settings_in_range))]
     pub fn in_range(self) -> bool
         ensures { result ≡ settings_in_range self }
     {
-        let ploidy = self.sample_ploidy;
-        numbers::within_u32(1, ploidy.0 as u32, Self::MAX_PLOIDY)
-            & numbers::within_u32(
-                Self::MIN_QUAL,
-                self.min_base_quality_score as u32,
-                Self::MAX_QUAL,
-            )
-            & numbers::within_u32(
-                Self::MIN_QUAL,
-                self.ref_model_deletion_qual as u32,
-                Self::MAX_QUAL,
-            )
+        let ploidy = self.sample_ploidy.0 as u32;
+        let min_qual = self.min_base_quality_score as u32;
+        let deletion_qual = self.ref_model_deletion_qual as u32;
+        (1..=Self::MAX_PLOIDY).contains(&ploidy)
+            & (Self::MIN_QUAL..=Self::MAX_QUAL).contains(&min_qual)
+            & (Self::MIN_QUAL..=Self::MAX_QUAL).contains(&deletion_qual)
             & numbers::within_f64(
                 Self::MIN_HETEROZYGOSITY,
                 self.snp_heterozygosity,
@@ -83,5 +63,22 @@ impl HaplotypeCallerActivityScoringParams {
                 self.active_region_alt_multiplier,
                 Self::MAX_ALT_MULTIPLIER,
             )
+    }
+}
+
+// The Rust's defaults.
+impl Default for HaplotypeCallerActivityScoringParams {
+    ghost is_default = { λ s. s ≡ defaults };
+
+    fn default() -> HaplotypeCallerActivityScoringParams {
+        HaplotypeCallerActivityScoringParams {
+            min_base_quality_score: Self::DEFAULT_MIN_BASE_QUALITY_SCORE,
+            sample_ploidy: Ploidy(Self::DEFAULT_SAMPLE_PLOIDY),
+            snp_heterozygosity: Self::DEFAULT_SNP_HETEROZYGOSITY,
+            heterozygosity_standard_deviation: Self::DEFAULT_HETEROZYGOSITY_STANDARD_DEVIATION,
+            ref_model_deletion_qual: Self::REF_MODEL_DELETION_QUAL,
+            active_region_alt_multiplier: Self::DEFAULT_ALT_MULTIPLIER,
+            flow_based_reference_model: false,
+        }
     }
 }

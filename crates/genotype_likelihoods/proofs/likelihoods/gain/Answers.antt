@@ -1,21 +1,17 @@
--- `gain` meets its contract: the entries before i have the observation.
-use Rattle.std.proofs.Common.{sym, refl, ◌∙◌, arith, length-set}
+-- `gain` meets its contract: the entries before this one have the observation.
+use Rattle.std.proofs.Common.{sym, ◌∙◌, arith}
 use lib.Ieee.{nan}
 use Rattle.genotype_likelihoods.specs.Likelihoods.{gained}
 use Rattle.lists.specs.Each.{up_to_all, up_to-turn, up_to_zero}
 use Rattle.genotype_likelihoods.proofs.likelihoods.gain.Goals as goal
 
 pub loop-i-init : goal.loop-i-init
-loop-i-init c = (omega arith, refl, sym (up_to_zero _ _))
+loop-i-init c = sym (up_to_zero _ _)
 
 pub loop-i-preserved : goal.loop-i-preserved
 loop-i-preserved c =
-    let at = c in
-    let a = at.args in
-    (omega arith, simp length-set (omega arith), rw c.genotype_contribution-t.ensures (up_to-turn (gained a.qual a.is_alt a.weight a.ploidy.0) _ _ _ nan at.loop-i.invariant.2 (omega arith)))
-
-pub shape_of-gl : goal.shape_of-gl
-shape_of-gl c = c.loop-i.invariant.1
+    let a = c.args in
+    rw c.genotype_contribution.ensures (up_to-turn (gained a.qual a.is_alt a.weight a.ploidy.0) _ _ _ nan c.loop-i.invariant (omega arith))
 
 pub returns : goal.returns
-returns c = c.loop-i.invariant.2 ∙ up_to_all (gained _ _ _ _) _ _ (omega arith)
+returns c = c.loop-i.invariant ∙ up_to_all (gained _ _ _ _) _ _ (omega arith)

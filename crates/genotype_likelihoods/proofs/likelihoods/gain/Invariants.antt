@@ -1,11 +1,8 @@
--- `gain` meets its contract: the entries before i have the observation.
-use Rattle.std.proofs.Common.{◌≡◌, ◌-◌, ◌≤◌, length}
+-- `gain` meets its contract: the entries before this one have the observation.
+use Rattle.std.proofs.Common.{◌≡◌}
 use Rattle.genotype_likelihoods.specs.Likelihoods.{gained}
 use Rattle.lists.specs.Each.{up_to}
 use Rattle.genotype_likelihoods.proofs.likelihoods.gain.Given as goal
 
 abbrev pub invariant-loop-i : goal.invariant-loop-i
-invariant-loop-i l = (l.i ≤ length l.initial.gl) × (length l.gl ≡ length l.initial.gl) × (l.gl ≡ up_to (gained l.qual l.is_alt l.weight l.ploidy.0) l.i l.initial.gl)
-
-abbrev pub decreases-loop-i : goal.decreases-loop-i
-decreases-loop-i l = length l.initial.gl - l.i
+invariant-loop-i l = l.gl ≡ up_to (gained l.qual l.is_alt l.weight l.ploidy.0) l.i l.initial.gl
