@@ -29,10 +29,8 @@ pub fn count_high_quality_soft_clip_bases_rcm(
     ensures { outcome_of result ≡ clip_count cigar.now qualities.now }
 {
     let mut w = Walk { at: 0, count: 0 };
-    let mut i = 0;
-    while i < cigar.len() {
-        w = walk_word(w, cigar[i], qualities)?;
-        i += 1;
+    for word in cigar {
+        w = walk_word(w, *word, qualities)?;
     }
     Ok(w.count)
 }
@@ -75,7 +73,7 @@ fn pass(w: Walk, n: usize, qualities: usize) -> Walk
     ensures { result ≡ capped qualities (passed n w) }
 {
     Walk {
-        at: w.at + smaller(n, qualities - w.at),
+        at: w.at + n.min(qualities - w.at),
         count: w.count,
     }
 }
@@ -92,21 +90,13 @@ fn clip(w: Walk, end: usize, qualities: &[u8]) -> Walk
     }
 }
 
-fn smaller(a: usize, b: usize) -> usize
-    ensures { result ≡ min a b }
-{
-    if a < b { a } else { b }
-}
-
 // How many of the qualities are strictly above 28 and not missing.
 fn count_high(qualities: &[u8]) -> u64
     ensures { result ≡ count_high qualities.now }
 {
     let mut n = 0u64;
-    let mut i = 0;
-    while i < qualities.len() {
-        n = with_base(n, qualities[i]);
-        i += 1;
+    for quality in qualities {
+        n = with_base(n, *quality);
     }
     n
 }

@@ -8,14 +8,16 @@ use Rattle.hq_soft_clip.specs.SoftClips.{count_high, with_base}
 use Rattle.lists.specs.Loops.{fold_end, fold-turn}
 use Rattle.hq_soft_clip.proofs.count_high.Goals as goal
 
-pub loop-i-init : goal.loop-i-init
+pub loop-quality-init : goal.loop-quality-init
 unfolding count_high
-loop-i-init c = (search rules, search rules, refl)
+loop-quality-init c = (search rules, refl)
 
-pub loop-i-preserved : goal.loop-i-preserved
-loop-i-preserved c =
-    let at = c in
-    (omega arith, simp c.with_base-n.ensures (omega (arith, at.loop-i.invariant.1, base_le at.loop-i.n (get_or at.args.qualities.now at.loop-i.i 0))), rw c.with_base-n.ensures (fold-turn with_base _ _ _ 0 c.loop-i-test.true ∙ at.loop-i.invariant.2))
+pub loop-quality-preserved : goal.loop-quality-preserved
+loop-quality-preserved c =
+    let at = c.loop-quality in (
+      simp c.with_base-n.ensures (omega (arith, at.invariant.0, base_le at.n (get_or c.args.qualities.now at.quality-index 0))),
+      rw c.with_base-n.ensures (fold-turn with_base _ _ _ 0 c.loop-quality-test.true ∙ at.invariant.1),
+    )
 
 pub returns : goal.returns
-returns c = sym (fold_end with_base _ _ _ c.loop-i-test.false) ∙ c.loop-i.invariant.2
+returns c = sym (fold_end with_base _ c.args.qualities.now c.loop-quality.quality-index (omega arith)) ∙ c.loop-quality.invariant.1

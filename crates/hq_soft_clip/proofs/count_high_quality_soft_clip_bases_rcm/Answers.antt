@@ -3,44 +3,37 @@
 use Prim.Native.Nat.{◌+◌}
 use mathlib.Core.Path.{◌≡◌, ◌∙◌, ap, refl, sym}
 use Rattle.std.specs.Prelude.{Err}
+use borrow.Author.Rules.{rules}
 use native.Mathlib.Omega.{arith}
 use lib.ListN.{drop, get_or}
-use borrow.Author.Rules.{rules}
 use Rattle.hq_soft_clip.proofs.Walks.{turn, walked-within}
 use Rattle.hq_soft_clip.proofs.Refused.{refused_count}
 use Rattle.hq_soft_clip.specs.SoftClips.{after, clip_count, count_of}
 use Rattle.lists.specs.Loops.{fold_end}
 use Rattle.hq_soft_clip.proofs.count_high_quality_soft_clip_bases_rcm.Goals as goal
 
-pub loop-i-init : goal.loop-i-init
+pub loop-word-init : goal.loop-word-init
 unfolding clip_count
-loop-i-init c = (search rules, omega arith, omega arith, refl)
+loop-word-init c = (omega arith, omega arith, refl)
 
 pub returns-in_err-w : goal.returns-in_err-w
 returns-in_err-w c =
-    let called = c in
-    let at = called in
-    let a = at.args in
+    let a = c.args in
+    let at = c.loop-word in
     let e : c.from_residual.result ≡ Err c.in_err-w.field-0.0 = search rules in
     rw e
-    (sym (refused_count a.qualities.now (drop (at.loop-i.i + 1) a.cigar.now) _)
-    ∙ turn a.qualities.now a.cigar.now at.loop-i.w at.loop-i.i _ called.loop-i-test.true c.in_err-w.ensures ∙ at.loop-i.invariant.3)
+    (sym (refused_count a.qualities.now (drop (at.word-index + 1) a.cigar.now) _)
+    ∙ turn a.qualities.now a.cigar.now at.w at.word-index _ c.loop-word-test.true c.in_err-w.ensures ∙ at.invariant.2)
 
-pub loop-i-preserved : goal.loop-i-preserved
-loop-i-preserved c =
-    let called = c in
-    let at = called in
-    let a = at.args in
-    let e = c.in_ok-w.ensures in
-    let within = walked-within a.qualities.now at.loop-i.w (get_or a.cigar.now at.loop-i.i 0) _ at.loop-i.invariant.1 at.loop-i.invariant.2 e in (
-      omega arith,
+pub loop-word-preserved : goal.loop-word-preserved
+loop-word-preserved c =
+    let a = c.args in
+    let at = c.loop-word in
+    let within = walked-within a.qualities.now at.w (get_or a.cigar.now at.word-index 0) _ at.invariant.0 at.invariant.1 c.in_ok-w.ensures in (
       within.0,
       within.1,
-      turn a.qualities.now a.cigar.now at.loop-i.w at.loop-i.i _ called.loop-i-test.true e ∙ at.loop-i.invariant.3,
+      turn a.qualities.now a.cigar.now at.w at.word-index _ c.loop-word-test.true c.in_ok-w.ensures ∙ at.invariant.2,
     )
 
 pub returns : goal.returns
-returns c =
-    let at = c in
-    let a = at.args in
-    sym (ap count_of (fold_end (after a.qualities.now) _ _ _ c.loop-i-test.false)) ∙ at.loop-i.invariant.3
+returns c = sym (ap count_of (fold_end (after c.args.qualities.now) _ c.args.cigar.now c.loop-word.word-index (omega arith))) ∙ c.loop-word.invariant.2

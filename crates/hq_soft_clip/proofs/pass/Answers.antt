@@ -7,5 +7,5 @@ use Rattle.hq_soft_clip.proofs.pass.Goals as goal
 pub returns : goal.returns
 returns c =
     let given = c.args in
-    let place : given.w.at + c.smaller.result ≡ min (given.w.at + given.n) given.qualities = omega (arith, c.smaller.ensures, c.requires) in
+    let place : given.w.at + c.min.result ≡ min (given.w.at + given.n) given.qualities = omega (arith, c.min.ensures, c.requires) in
     rw place
