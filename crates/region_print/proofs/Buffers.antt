@@ -1,42 +1,18 @@
 -- Texts that are added one behind the other. Assumes nothing.
-use mathlib.Core.Path.{◌≡◌, refl, sym, ap, ◌∙◌}
+use mathlib.Core.Path.{◌≡◌, sym, ap, ◌∙◌}
 use mathlib.Core.Bool.{Bool, true, false, not}
-use mathlib.Core.List.{List, [], ◌∷◌, ◌++◌, append_assoc}
-use Prim.Native.Nat.{ℕ, ◌+◌, ◌-◌, ◌≤◌, ◌<◌}
-use borrow.Author.Tests.{leb-true, leb-false, le-leb, lt-leb, not-true, not-false}
+use mathlib.Core.List.{List, ◌++◌, append_assoc}
+use Prim.Native.Nat.{ℕ, ◌+◌, ◌≤◌}
+use borrow.Author.Tests.{leb-true, not-false}
 use lib.Dec.{leb, eqb}
-use native.Mathlib.Nat.{le_refl}
 use native.Mathlib.Omega.{arith}
-use native.Mathlib.Numerals.{add-one}
-use lib.ListN.{length, take, drop, set, length-append, length-drop, take-append-drop}
-use lib.Seq.{length-take-le, set_split, take_at, drop_at, drop-drop, take_all, paste}
+use lib.ListN.{length, take, drop, length-append, length-drop}
+use lib.Seq.{length-take-le, take_at, drop_at, drop-drop}
 use Rattle.region_sheet.specs.Pages.{feed_where}
 use Rattle.region_print.specs.declared.Form.{Form}
 use Rattle.region_print.specs.declared.Form.TheVariants.{Listing, Sheet}
 use Rattle.region_print.specs.Forms.{end_text}
 use Rattle.region_print.specs.Buffers.{MOST, Added, AddedWhereRoom}
-
--- nothing
-pub added_none : (text : List ℕ) (used : ℕ) → used ≤ length text → Added [] text used text used
-added_none text used h = record { count = omega arith; within = h; written = sym (take-append-drop used text) }
-
--- one byte
-pub added_byte : (b : ℕ) (text : List ℕ) (used : ℕ) → used < length text → Added (b ∷ []) text used (set text used b) (used + 1)
-added_byte b text used h = record {
-  count = refl;
-  within = omega (arith, h);
-  written = set_split text used b h ∙ ap (λ n. take used text ++ b ∷ drop n text) (sym (add-one used));
-}
-
--- a copy
-pub added_copy : (new text : List ℕ) (used : ℕ) → used + length new ≤ length text → Added new text used (paste text used new (length new)) (used + length new)
-added_copy new text used h = record {
-  count = refl;
-  within = h;
-  written =
-      append_assoc (take used text) (take (length new) new) (drop (used + length new) text)
-      ∙ ap (λ (t : List ℕ). take used text ++ (t ++ drop (used + length new) text)) (take_all (length new) new (le_refl _));
-}
 
 -- a buffer keeps its length
 pub added_long : (new text : List ℕ) (used : ℕ) (text' : List ℕ) (n : ℕ) → Added new text used text' n → length text' ≡ length text
@@ -79,9 +55,6 @@ added_then x y text mid text' used m n a b =
 pub room : (new text : List ℕ) (used : ℕ) (text' : List ℕ) (n : ℕ) → used + MOST ≤ length text → n ≤ used + MOST → Added new text used text' n → AddedWhereRoom new text used text' n
 room new text used text' n h few a = record { added = λ _. a; none = λ k. absurd (omega (arith, h, k)); few = few }
 
-pub no_room : (new text : List ℕ) (used : ℕ) → length text < used + MOST → AddedWhereRoom new text used text used
-no_room new text used h = record { added = λ k. absurd (omega (arith, h, k)); none = λ _. (refl, refl); few = omega arith }
-
 -- what is in use then
 pub front_added : (new text : List ℕ) (used : ℕ) (text' : List ℕ) (n : ℕ) → Added new text used text' n → take n text' ≡ take used text ++ new
 front_added new text used text' n a =
@@ -89,19 +62,8 @@ front_added new text used text' n a =
     let seam : length (take used text ++ new) ≡ n = length-append (take used text) new ∙ omega (arith, length-take-le used text within, a.count) in
     ap (take n) (a.written ∙ sym (append_assoc (take used text) new (drop n text))) ∙ take_at (take used text ++ new) (drop n text) n seam
 
--- the test for room
-pub room_test : (used long : ℕ) → used < long → leb MOST (long - used) ≡ leb (used + MOST) long
-room_test used long h = go (leb (used + MOST) long) refl
-  where
-    go : (b : Bool) → leb (used + MOST) long ≡ b → leb MOST (long - used) ≡ b
-    go true e = le-leb MOST (long - used) (omega (arith, leb-true (used + MOST) long e, h))
-    go false e = lt-leb MOST (long - used) (omega (arith, leb-false (used + MOST) long e, h))
-
 pub has : (b : Bool) (used long : ℕ) → b ≡ leb (used + MOST) long → not b ≡ false → used + MOST ≤ long
 has b used long e h = leb-true (used + MOST) long (sym e ∙ not-false b h)
-
-pub has_not : (b : Bool) (used long : ℕ) → b ≡ leb (used + MOST) long → not b ≡ true → long < used + MOST
-has_not b used long e h = leb-false (used + MOST) long (sym e ∙ not-true b h)
 
 -- a page's end is a byte at most
 feed_few : (b : Bool) → length (feed_where b) ≤ 1

@@ -1,6 +1,9 @@
 // Text behind the text in a buffer. Each function answers how many bytes are in use then; where there is no room for the
 // most that a call adds, it writes nothing.
-ghost use Rattle.std.specs.Prelude.{◌≡◌, ◌+◌, ◌≤◌, ◌<◌, leb, length, drop};
+//
+// The buffer and its bytes in use are two arguments: a run keeps the count in its state and is lent the buffer anew at each
+// call, so that a type of both would be made and taken apart at every one; and any count is answered, past the end too.
+ghost use Rattle.std.specs.Prelude.{◌≡◌, ◌+◌, ◌≤◌, ◌<◌, leb, length};
 ghost use Rattle.genome.specs.Refusals.{number_of};
 ghost use Rattle.region_text.specs.Text.{line_text, refusal_text};
 ghost use Rattle.region_sheet.specs.Row.{region_row};
@@ -67,10 +70,7 @@ pub fn print_end(form: Form, text: &mut [u8], used: usize) -> usize
 fn has_room(text: &[u8], used: usize) -> bool
     ensures { result ≡ leb (used + most_added) (length text.now) }
 {
-    if used < text.len() {
-        return text.len() - used >= MOST;
-    }
-    false
+    text.len().saturating_sub(used) >= MOST
 }
 
 fn line(region: ActivityProfileRegion, text: &mut [u8], used: usize) -> usize
@@ -80,7 +80,7 @@ fn line(region: ActivityProfileRegion, text: &mut [u8], used: usize) -> usize
 {
     let mut bytes = [0u8; TEXT];
     let at = region_text::line_text(region, &mut bytes);
-    append_from(text, used, &bytes, at)
+    append(text, used, &bytes[at..])
 }
 
 fn refusal(why: Refusal, index: u64, text: &mut [u8], used: usize) -> usize
@@ -90,7 +90,7 @@ fn refusal(why: Refusal, index: u64, text: &mut [u8], used: usize) -> usize
 {
     let mut bytes = [0u8; TEXT];
     let at = region_text::refusal_text(why, index, &mut bytes);
-    append_from(text, used, &bytes, at)
+    append(text, used, &bytes[at..])
 }
 
 fn row(region: ActivityProfileRegion, text: &mut [u8], used: usize) -> usize
@@ -108,32 +108,13 @@ fn row(region: ActivityProfileRegion, text: &mut [u8], used: usize) -> usize
     append(text, used, &bytes)
 }
 
-// The bytes from `at` on.
-fn append_from(text: &mut [u8], used: usize, bytes: &[u8; TEXT], at: usize) -> usize
-    requires { (used + 105 ≤ length text.old) × (at ≤ 105) }
-    ensures added { Added (drop at bytes.now) text.old used text.new result }
-    ensures upper_bound { result ≤ used + 105 }
-{
-    append(text, used, from(bytes, at))
-}
-
-fn from<'a>(bytes: &'a [u8], at: usize) -> &'a [u8]
-    requires { at ≤ length bytes.now }
-    ensures { result.now ≡ drop at bytes.now }
-{
-    &bytes[at..]
-}
-
 fn append(text: &mut [u8], used: usize, piece: &[u8]) -> usize
     requires { used + length piece.now ≤ length text.old }
     ensures { Added piece.now text.old used text.new result }
 {
-    let mut i = 0;
-    while i < piece.len() {
-        text[used + i] = piece[i];
-        i += 1;
-    }
-    used + piece.len()
+    let end = used + piece.len();
+    text[used..end].copy_from_slice(piece);
+    end
 }
 
 // A form feed, where it is asked for.
