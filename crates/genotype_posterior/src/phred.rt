@@ -4,7 +4,10 @@ ghost use Rattle.std.specs.Float.Ieee.{to_unsigned};
 ghost use Rattle.lists.specs.Each.{each};
 ghost use Rattle.genotype_posterior.specs.Phred.{max_f, min_f, adjust, pl_of, round_trip, pl_round_trip};
 
+use std::num::saturating_f64_to_u64;
+
 // Rounds every likelihood, counted from the largest, to a whole PL and back.
+#[tactic(auto, unfolding(crate::specs::Phred::pl_round_trip))]
 pub fn genotype_log10_likelihoods_after_java_genotype_pl_roundtrip(gl: &mut [f64])
     ensures { gl.new ≡ pl_round_trip gl.old }
 {
@@ -16,22 +19,15 @@ pub fn genotype_log10_likelihoods_after_java_genotype_pl_roundtrip(gl: &mut [f64
 fn largest(gl: &[f64]) -> f64
     ensures { result ≡ adjust gl.now }
 {
-    let mut top = log10_sums::neg_infinity();
-    let mut i = 0;
-    while i < gl.len() {
-        top = max(top, gl[i]);
-        i += 1;
-    }
-    top
+    gl.iter()
+        .fold(log10_sums::neg_infinity(), |top, x| max(top, *x))
 }
 
 fn round_all(gl: &mut [f64], top: f64)
     ensures { gl.new ≡ each (round_trip top) gl.old }
 {
-    let mut i = 0;
-    while i < gl.len() {
-        gl[i] = round_one(gl[i], top);
-        i += 1;
+    for x in gl.iter_mut() {
+        *x = round_one(*x, top);
     }
 }
 
@@ -43,6 +39,7 @@ fn round_one(g: f64, top: f64) -> f64
 }
 
 // The PL of a value: capped, then the whole part of the value + 0.5.
+#[tactic(auto, unfolding(crate::specs::Phred::pl_of))]
 fn pl_of(value: f64) -> u32
     ensures { result ≡ pl_of value }
 {
@@ -53,14 +50,11 @@ fn pl_of(value: f64) -> u32
 fn whole_pl(x: f64) -> u32
     ensures { result ≡ to_unsigned 31 x }
 {
-    let n = numbers::as_u64(x);
-    if n <= 2147483647 {
-        return n as u32;
-    }
-    2147483647
+    saturating_f64_to_u64(x).min(2147483647) as u32
 }
 
-// Rust's f64::max: of a NaN and a number, the number.
+// Rust's f64::max: of a NaN and a number, the number. By hand, as min below: of two zeros of both signs std's may answer either.
+#[tactic(auto, unfolding(crate::specs::Phred::max_f))]
 fn max(a: f64, b: f64) -> f64
     ensures { result ≡ max_f a b }
 {
@@ -68,6 +62,7 @@ fn max(a: f64, b: f64) -> f64
 }
 
 // Rust's f64::min.
+#[tactic(auto, unfolding(crate::specs::Phred::min_f))]
 fn min(a: f64, b: f64) -> f64
     ensures { result ≡ min_f a b }
 {

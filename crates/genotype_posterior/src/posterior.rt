@@ -10,6 +10,7 @@ use genome::Ploidy;
 
 // From the rounded likelihoods of ploidy + 1 genotypes, over which the unnormalized posteriors are written. 0.0, with
 // nothing written, where the reference genotype is the likeliest; 0.0 too where it has the largest posterior.
+#[tactic(auto, using(std::proofs::lemmas::Bool::Decides::nat_tests), unfolding(crate::specs::Posterior::posterior, crate::specs::Posterior::posterior_written))]
 pub fn calculate_single_sample_biallelic_non_ref_posterior(
     gl: &mut [f64],
     snp_heterozygosity: f64,
@@ -35,14 +36,13 @@ fn write_unnormalized(gl: &mut [f64], ref_pc: f64, snp_pc: f64)
     ensures { gl.new ≡ each (unnormalized (length gl.old - 1) ref_pc snp_pc) gl.old }
 {
     let ploidy = gl.len() as u64 - 1;
-    let mut i = 0;
-    while i < gl.len() {
-        gl[i] = gl[i] + ln_prior(ploidy, i as u64, ref_pc, snp_pc) * elementary::LOG10_E;
-        i += 1;
+    for (i, x) in gl.iter_mut().enumerate() {
+        *x = *x + ln_prior(ploidy, i as u64, ref_pc, snp_pc) * elementary::LOG10_E;
     }
 }
 
 // The natural logarithm of the prior of n copies of the alternate.
+#[tactic(auto, unfolding(crate::specs::Posterior::ln_prior))]
 fn ln_prior(ploidy: u64, n: u64, ref_pc: f64, snp_pc: f64) -> f64
     requires { (n ≤ ploidy) × (ploidy < 18446744073709551615) }
     ensures { result ≡ ln_prior ploidy ref_pc snp_pc n }
@@ -56,6 +56,7 @@ fn ln_prior(ploidy: u64, n: u64, ref_pc: f64, snp_pc: f64) -> f64
 }
 
 // The natural logarithm of n over k.
+#[tactic(auto, unfolding(crate::specs::Posterior::log_binomial))]
 fn log_binomial_coefficient_natural(n: u64, k: u64) -> f64
     requires { (k ≤ n) × (n < 18446744073709551615) }
     ensures { result ≡ log_binomial n k }
@@ -67,6 +68,7 @@ fn log_binomial_coefficient_natural(n: u64, k: u64) -> f64
 }
 
 // 1 less the normalized posterior of the reference genotype, or 0.0 where that one is the largest.
+#[tactic(auto, using(std::proofs::lemmas::Bool::Decides::nat_tests), unfolding(crate::specs::Posterior::non_ref))]
 fn non_ref(u: &[f64]) -> f64
     requires { 0 < length u.now }
     ensures { result ≡ non_ref u.now }
@@ -95,15 +97,13 @@ pub fn fill_log10_priors(
     if priors.len() < n {
         return;
     }
-    let mut j = 0;
-    while j < n {
+    for j in 0..n {
         priors[j] = prior_at(
             j,
             ploidy,
             snp_heterozygosity,
             heterozygosity_standard_deviation,
         );
-        j += 1;
     }
 }
 
@@ -115,6 +115,7 @@ pub fn priors_length(ploidy: Ploidy) -> usize
 }
 
 // What stands at a place of the list.
+#[tactic(auto, using(std::proofs::lemmas::Bool::Decides::nat_tests), unfolding(crate::specs::Priors::prior_at, crate::specs::Priors::log10_prior))]
 fn prior_at(
     j: usize,
     ploidy: Ploidy,
@@ -141,6 +142,7 @@ fn prior_at(
 
 // As `calculate_single_sample_biallelic_non_ref_posterior`, by a list that `fill_log10_priors` filled. A list that carries
 // other settings, or is of another length than `priors_length`, is not looked at.
+#[tactic(auto, using(std::proofs::lemmas::Bool::Decides::nat_tests), unfolding(crate::specs::Priors::posterior_by, crate::specs::Priors::posterior_written_by))]
 pub fn calculate_single_sample_biallelic_non_ref_posterior_by_priors(
     gl: &mut [f64],
     snp_heterozygosity: f64,
@@ -220,9 +222,7 @@ fn add_priors(gl: &mut [f64], priors: &[f64])
     requires { length priors.now ≡ length gl.old }
     ensures { gl.new ≡ each (with_prior priors.now) gl.old }
 {
-    let mut i = 0;
-    while i < gl.len() {
-        gl[i] = gl[i] + priors[i];
-        i += 1;
+    for (i, x) in gl.iter_mut().enumerate() {
+        *x = *x + priors[i];
     }
 }

@@ -3,8 +3,5 @@ use Rattle.std.proofs.Common.{arith}
 use Rattle.numbers.specs.Casts.{narrower}
 use Rattle.genotype_posterior.proofs.phred.whole_pl.Goals as goal
 
-pub returns-then-n-le2147483647 : goal.returns-then-n-le2147483647
-returns-then-n-le2147483647 c = omega (arith, narrower 31 c.args.x (omega arith), c.as_u64-n.ensures)
-
 pub returns : goal.returns
-returns c = omega (arith, narrower 31 c.args.x (omega arith), c.as_u64-n.ensures)
+returns c = omega (arith, narrower 31 c.args.x (omega arith), c.saturating_f64_to_u64.ensures, c.min.ensures)

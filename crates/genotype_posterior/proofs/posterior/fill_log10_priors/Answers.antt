@@ -10,7 +10,7 @@ unfolding log10_priors
 returns-then-priors-n c = simp (lt-ltb _ _ (subst (λ (m : ℕ). length c.args.priors.now < m) c.priors_length-n.ensures c.if-priors-n.true))
 
 pub loop-j-init : goal.loop-j-init
-loop-j-init c = (omega arith, c.if-priors-n.false, refl, sym (up_to_zero _ _))
+loop-j-init c = record { same_length = refl; filled = sym (up_to_zero _ _) }
 
 pub prior_at-requires : goal.prior_at-requires
 prior_at-requires c = rw (← c.priors_length-n.ensures) c.loop-j-test.true
@@ -21,10 +21,13 @@ loop-j-preserved c =
     let a = at.args in
     let rule = listed a.ploidy.0 a.snp_heterozygosity a.heterozygosity_standard_deviation in
     let below : at.loop-j.j < priors_length a.ploidy.0 = rw (← at.priors_length-n.ensures) c.loop-j-test.true in
-    (omega arith, at.loop-j.invariant.1, simp length-set at.loop-j.invariant.2, up_to_put rule at.loop-j.j _ _ nan _ at.loop-j.invariant.3 (omega arith) (simp (lt-ltb _ _ below) c.prior_at.ensures))
+    record {
+      same_length = simp length-set at.loop-j.invariant.same_length;
+      filled = up_to_put rule at.loop-j.j _ _ nan _ at.loop-j.invariant.filled (omega arith) (simp (lt-ltb _ _ below) c.prior_at.ensures);
+    }
 
 pub shape_of-priors : goal.shape_of-priors
-shape_of-priors c = c.loop-j.invariant.2
+shape_of-priors c = c.loop-j.invariant.same_length
 
 pub returns : goal.returns
 unfolding log10_priors
@@ -35,4 +38,4 @@ returns c =
     let rule = listed a.ploidy.0 a.snp_heterozygosity a.heterozygosity_standard_deviation in
     let done : at.loop-j.j ≡ priors_length a.ploidy.0 = omega (arith, n) in
     simp (le-ltb (length a.priors.now) (priors_length a.ploidy.0) (omega (arith, n)))
-    (at.loop-j.invariant.3 ∙ up_to-rest rule _ a.priors.now (λ k x h. simp (le-ltb k (priors_length a.ploidy.0) (omega arith))))
+    (at.loop-j.invariant.filled ∙ up_to-rest rule _ a.priors.now (λ k x h. simp (le-ltb k (priors_length a.ploidy.0) (omega arith))))

@@ -1,11 +1,8 @@
--- `write_unnormalized` meets its contract: the entries before i have their prior.
-use Rattle.std.proofs.Common.{◌≡◌, ◌-◌, ◌≤◌, length}
+-- `write_unnormalized` meets its contract: the entries before this one have their prior.
+use Rattle.std.proofs.Common.{◌≡◌, ◌-◌, length}
 use Rattle.genotype_posterior.specs.Posterior.{unnormalized}
 use Rattle.lists.specs.Each.{up_to}
 use Rattle.genotype_posterior.proofs.posterior.write_unnormalized.Given as goal
 
 abbrev pub invariant-loop-i : goal.invariant-loop-i
-invariant-loop-i l = (l.i ≤ length l.initial.gl) × (length l.gl ≡ length l.initial.gl) × (l.gl ≡ up_to (unnormalized (length l.initial.gl - 1) l.ref_pc l.snp_pc) l.i l.initial.gl)
-
-abbrev pub decreases-loop-i : goal.decreases-loop-i
-decreases-loop-i l = length l.initial.gl - l.i
+invariant-loop-i l = l.gl ≡ up_to (unnormalized (length l.initial.gl - 1) l.ref_pc l.snp_pc) l.i l.initial.gl
