@@ -9,20 +9,21 @@ ghost use Rattle.region_program.specs.Stream.{kernel_made};
 ghost use Rattle.region_program.specs.Tables.{table_score, table_filled, list_filled};
 
 use activity_profile::BandPassActivityProfile;
+use activity_scoring::ScoringTables;
 use genome::{GenomePosition, Refusal};
 use genotype_likelihoods::HaplotypeCallerActivityScoringParams;
-use region_program::{CONTIG, KERNEL, PRIORS, TABLE};
+use region_program::{CONTIG, KERNEL, StreamTables};
 use stream_settings::StreamSettings;
 
 // Fills the tables that piles are scored by. To be called once, before the first event.
-pub fn fill_tables(table: &mut [f64; TABLE], priors: &mut [f64; PRIORS])
-    ensures table_after { table.new ≡ table_filled table.old }
-    ensures priors_after { priors.new ≡ list_filled priors.old }
+pub fn fill_tables(tables: &mut StreamTables)
+    ensures contributions_after { tables.new.contributions ≡ table_filled tables.old.contributions }
+    ensures priors_after { tables.new.priors ≡ list_filled tables.old.priors }
 {
     let params = HaplotypeCallerActivityScoringParams::default();
-    contribution_table::fill_contribution_table(table, params);
+    contribution_table::fill_contribution_table(&mut tables.contributions, params);
     genotype_posterior::fill_log10_priors(
-        priors,
+        &mut tables.priors,
         params.sample_ploidy,
         params.snp_heterozygosity,
         params.heterozygosity_standard_deviation,
@@ -47,29 +48,28 @@ pub fn make_profile(
 }
 
 // Scores a pile and adds its locus. A refusal leaves the cells as they were.
+#[tactic(auto, unfolding(region_program::specs::Program::score_added, region_program::specs::Program::score_cells))]
 pub fn add_pile(
     p: BandPassActivityProfile,
     locus: u32,
     words: &[u32],
     kernel: &[f64],
     cells: &mut [f64],
-    table: &[f64],
-    priors: &[f64],
+    tables: ScoringTables,
 ) -> Result<BandPassActivityProfile, Refusal>
     ensures result_value { outcome_of result
         ≡ score_added p cells.old kernel.now
-        (table_score table.now priors.now locus words.now) }
+        (table_score tables.entry.contributions.now tables.entry.priors.now locus words.now) }
     ensures cells_after { cells.new
         ≡ score_cells p cells.old kernel.now
-        (table_score table.now priors.now locus words.now) }
+        (table_score tables.entry.contributions.now tables.entry.priors.now locus words.now) }
 {
-    let state = activity_scoring::haplotype_caller_activity_profile_state_by_tables(
+    let scored = activity_scoring::haplotype_caller_activity_profile_state_by_tables(
         CONTIG,
         GenomePosition(locus),
         words,
         HaplotypeCallerActivityScoringParams::default(),
-        table,
-        priors,
-    )?;
-    profile_add::add(p, state, kernel, cells).map_err(|refused| refused.refusal)
+        tables,
+    );
+    profile_add::add(p, scored?, kernel, cells).map_err(|refused| refused.refusal)
 }
