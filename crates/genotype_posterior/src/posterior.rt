@@ -1,16 +1,38 @@
 // The probability that a sample is not all reference.
 ghost use Rattle.std.specs.Prelude.{◌≡◌, ◌-◌, ◌<◌, ◌≤◌, length};
 ghost use Rattle.lists.specs.Each.{each};
-ghost use Rattle.genotype_posterior.specs.Posterior.{log_binomial, ln_prior, unnormalized, non_ref, posterior, posterior_written};
+ghost use Rattle.genotype_posterior.specs.Posterior.{ref_pseudocount, snp_pseudocount, log_binomial, ln_prior, unnormalized_all, non_ref, posterior, posterior_written};
 ghost use Rattle.genotype_posterior.specs.Priors.{priors_length, prior_at, log10_priors, are_for, with_prior};
 ghost use Rattle.genotype_posterior.specs.Priors.{unnormalized_by, posterior_by, posterior_written_by};
 
 use crate::HEADING;
 use genome::Ploidy;
 
+// What the priors are made of, beside the ploidy: the heterozygosity, and its standard deviation.
+#[derive(Clone, Copy)]
+struct Heterozygosity {
+    snp: f64,
+    standard_deviation: f64,
+}
+
+impl Heterozygosity {
+    // How many copies of the reference the prior counts.
+    fn ref_pseudocount(self) -> f64
+        ensures { result ≡ ref_pseudocount self.snp self.standard_deviation }
+    {
+        self.snp / (self.standard_deviation * self.standard_deviation)
+    }
+
+    // How many copies of the alternate the prior counts.
+    fn snp_pseudocount(self) -> f64
+        ensures { result ≡ snp_pseudocount self.snp self.standard_deviation }
+    {
+        self.snp * self.ref_pseudocount()
+    }
+}
+
 // From the rounded likelihoods of ploidy + 1 genotypes, over which the unnormalized posteriors are written. 0.0, with
 // nothing written, where the reference genotype is the likeliest; 0.0 too where it has the largest posterior.
-#[tactic(auto, using(std::proofs::lemmas::Bool::Decides::nat_tests), unfolding(crate::specs::Posterior::posterior, crate::specs::Posterior::posterior_written))]
 pub fn calculate_single_sample_biallelic_non_ref_posterior(
     gl: &mut [f64],
     snp_heterozygosity: f64,
@@ -20,22 +42,23 @@ pub fn calculate_single_sample_biallelic_non_ref_posterior(
     ensures gl_after { gl.new
         ≡ posterior_written snp_heterozygosity heterozygosity_standard_deviation gl.old }
 {
-    if log10_sums::max_element_index(&gl[..]) == 0 {
-        return 0.0;
-    }
-    let ref_pc = snp_heterozygosity
-        / (heterozygosity_standard_deviation * heterozygosity_standard_deviation);
-    let snp_pc = snp_heterozygosity * ref_pc;
-    write_unnormalized(gl, ref_pc, snp_pc);
-    non_ref(&gl[..])
+    let array = [0.0; 1];
+    calculate_single_sample_biallelic_non_ref_posterior_by_priors(
+        gl,
+        snp_heterozygosity,
+        heterozygosity_standard_deviation,
+        &array[..0],
+    )
 }
 
 // Each likelihood with the log10 of its genotype's prior added.
-fn write_unnormalized(gl: &mut [f64], ref_pc: f64, snp_pc: f64)
+fn write_unnormalized(gl: &mut [f64], settings: Heterozygosity)
     requires { 0 < length gl.old }
-    ensures { gl.new ≡ each (unnormalized (length gl.old - 1) ref_pc snp_pc) gl.old }
+    ensures { gl.new ≡ unnormalized_all settings.snp settings.standard_deviation gl.old }
 {
     let ploidy = gl.len() as u64 - 1;
+    let ref_pc = settings.ref_pseudocount();
+    let snp_pc = settings.snp_pseudocount();
     for (i, x) in gl.iter_mut().enumerate() {
         *x = *x + ln_prior(ploidy, i as u64, ref_pc, snp_pc) * elementary::LOG10_E;
     }
@@ -97,13 +120,12 @@ pub fn fill_log10_priors(
     if priors.len() < n {
         return;
     }
+    let settings = Heterozygosity {
+        snp: snp_heterozygosity,
+        standard_deviation: heterozygosity_standard_deviation,
+    };
     for j in 0..n {
-        priors[j] = prior_at(
-            j,
-            ploidy,
-            snp_heterozygosity,
-            heterozygosity_standard_deviation,
-        );
+        priors[j] = prior_at(j, ploidy, settings);
     }
 }
 
@@ -116,27 +138,21 @@ pub fn priors_length(ploidy: Ploidy) -> usize
 
 // What stands at a place of the list.
 #[tactic(auto, using(std::proofs::lemmas::Bool::Decides::nat_tests), unfolding(crate::specs::Priors::prior_at, crate::specs::Priors::log10_prior))]
-fn prior_at(
-    j: usize,
-    ploidy: Ploidy,
-    snp_heterozygosity: f64,
-    heterozygosity_standard_deviation: f64,
-) -> f64
+fn prior_at(j: usize, ploidy: Ploidy, settings: Heterozygosity) -> f64
     requires { j < priors_length ploidy.0 }
-    ensures { result ≡ prior_at ploidy.0 snp_heterozygosity heterozygosity_standard_deviation j }
+    ensures { result ≡ prior_at ploidy.0 settings.snp settings.standard_deviation j }
 {
     if j == 0 {
         return ploidy.0 as f64;
     }
     if j == 1 {
-        return snp_heterozygosity;
+        return settings.snp;
     }
     if j == 2 {
-        return heterozygosity_standard_deviation;
+        return settings.standard_deviation;
     }
-    let ref_pc = snp_heterozygosity
-        / (heterozygosity_standard_deviation * heterozygosity_standard_deviation);
-    let alt_pc = snp_heterozygosity * ref_pc;
+    let ref_pc = settings.ref_pseudocount();
+    let alt_pc = settings.snp_pseudocount();
     ln_prior(ploidy.0 as u64, (j - HEADING) as u64, ref_pc, alt_pc) * elementary::LOG10_E
 }
 
@@ -159,51 +175,31 @@ pub fn calculate_single_sample_biallelic_non_ref_posterior_by_priors(
     if log10_sums::max_element_index(&gl[..]) == 0 {
         return 0.0;
     }
-    unnormalize(
-        gl,
-        snp_heterozygosity,
-        heterozygosity_standard_deviation,
-        priors,
-    );
+    let settings = Heterozygosity {
+        snp: snp_heterozygosity,
+        standard_deviation: heterozygosity_standard_deviation,
+    };
+    unnormalize(gl, settings, priors);
     non_ref(&gl[..])
 }
 
 // Each likelihood with the log10 of its genotype's prior added.
-fn unnormalize(
-    gl: &mut [f64],
-    snp_heterozygosity: f64,
-    heterozygosity_standard_deviation: f64,
-    priors: &[f64],
-)
+fn unnormalize(gl: &mut [f64], settings: Heterozygosity, priors: &[f64])
     requires { 0 < length gl.old }
     ensures { gl.new
-        ≡ unnormalized_by priors.now snp_heterozygosity heterozygosity_standard_deviation
-        gl.old }
+        ≡ unnormalized_by priors.now settings.snp settings.standard_deviation gl.old }
 {
-    if are_for(
-        priors,
-        gl.len(),
-        snp_heterozygosity,
-        heterozygosity_standard_deviation,
-    ) {
+    if are_for(priors, gl.len(), settings) {
         add_priors(gl, &priors[HEADING..]);
         return;
     }
-    let ref_pc = snp_heterozygosity
-        / (heterozygosity_standard_deviation * heterozygosity_standard_deviation);
-    write_unnormalized(gl, ref_pc, snp_heterozygosity * ref_pc);
+    write_unnormalized(gl, settings);
 }
 
 // Whether a list carries these settings, and has a prior for each of so many genotypes.
-fn are_for(
-    priors: &[f64],
-    genotypes: usize,
-    snp_heterozygosity: f64,
-    heterozygosity_standard_deviation: f64,
-) -> bool
+fn are_for(priors: &[f64], genotypes: usize, settings: Heterozygosity) -> bool
     requires { 0 < genotypes }
-    ensures { result
-        ≡ are_for priors.now genotypes snp_heterozygosity heterozygosity_standard_deviation }
+    ensures { result ≡ are_for priors.now genotypes settings.snp settings.standard_deviation }
 {
     if priors.len() < HEADING {
         return false;
@@ -213,8 +209,8 @@ fn are_for(
     }
     let ploidy = std::num::nearest_u64_to_f64(genotypes as u64 - 1);
     let same = numbers::same_positive(priors[0], ploidy);
-    let mean = numbers::same_positive(priors[1], snp_heterozygosity);
-    let spread = numbers::same_positive(priors[2], heterozygosity_standard_deviation);
+    let mean = numbers::same_positive(priors[1], settings.snp);
+    let spread = numbers::same_positive(priors[2], settings.standard_deviation);
     same & (mean & spread)
 }
 

@@ -7,13 +7,13 @@ use Rattle.genotype_posterior.proofs.posterior.are_for.Goals as goal
 pub returns-then-priors-lt-HEADING : goal.returns-then-priors-lt-HEADING
 returns-then-priors-lt-HEADING c =
     let a = c.args in
-    sym (other_length a.priors.now a.genotypes a.snp_heterozygosity a.heterozygosity_standard_deviation (λ e. absurd (omega (arith, e, c.if-priors-lt-HEADING.true))))
+    sym (other_length a.priors.now a.genotypes a.settings.snp a.settings.standard_deviation (λ e. absurd (omega (arith, e, c.if-priors-lt-HEADING.true))))
 
 pub returns-then-priors-genotypes : goal.returns-then-priors-genotypes
 returns-then-priors-genotypes c =
     let a = c.args in
     let same : heading + a.genotypes - heading ≡ a.genotypes = omega arith in
-    sym (other_length a.priors.now a.genotypes a.snp_heterozygosity a.heterozygosity_standard_deviation (λ e. absurd (c.if-priors-genotypes.true (rw e same))))
+    sym (other_length a.priors.now a.genotypes a.settings.snp a.settings.standard_deviation (λ e. absurd (c.if-priors-genotypes.true (rw e same))))
 
 pub returns : goal.returns
 unfolding are_for

@@ -10,19 +10,19 @@ pub slice_bounds-add_priors-count : goal.slice_bounds-add_priors-count
 slice_bounds-add_priors-count c =
     let are = c in
     let a = are.args in
-    omega (arith, for_length a.priors.now (length a.gl.now) a.snp_heterozygosity a.heterozygosity_standard_deviation (sym are.are_for.ensures ∙ c.if-are_for.true))
+    omega (arith, for_length a.priors.now (length a.gl.now) a.settings.snp a.settings.standard_deviation (sym are.are_for.ensures ∙ c.if-are_for.true))
 
 pub slice_bounds-add_priors-start : goal.slice_bounds-add_priors-start
 slice_bounds-add_priors-start c =
     let are = c in
     let a = are.args in
-    omega (arith, for_length a.priors.now (length a.gl.now) a.snp_heterozygosity a.heterozygosity_standard_deviation (sym are.are_for.ensures ∙ c.if-are_for.true))
+    omega (arith, for_length a.priors.now (length a.gl.now) a.settings.snp a.settings.standard_deviation (sym are.are_for.ensures ∙ c.if-are_for.true))
 
 pub add_priors-requires : goal.add_priors-requires
 add_priors-requires c =
     let are = c in
     let a = are.args in
-    let long = for_length a.priors.now (length a.gl.now) a.snp_heterozygosity a.heterozygosity_standard_deviation (sym are.are_for.ensures ∙ c.if-are_for.true) in
+    let long = for_length a.priors.now (length a.gl.now) a.settings.snp a.settings.standard_deviation (sym are.are_for.ensures ∙ c.if-are_for.true) in
     length-take-le (length a.priors.now - heading) (drop heading a.priors.now) (omega (arith, length-drop heading a.priors.now)) ∙ omega (arith, long)
 
 pub returns-then-are_for : goal.returns-then-are_for
