@@ -3,9 +3,11 @@ use Prim.Native.Nat.{ℕ, zero, suc, ◌+◌, ◌-◌, ◌*◌, ◌≤◌, min, 
 use mathlib.Core.Path.{◌≡◌, refl, sym, ◌∙◌}
 use mathlib.Core.Bool.{Bool, true, false, ◌&&◌, cond}
 use native.Mathlib.Omega.{arith}
-use native.Mathlib.Numerals.{add-one}
+use Rattle.std.proofs.Common.{sub-one, zero-add}
+use Rattle.std.proofs.Math.Nat.{add-zero}
 use lib.Dec.{leb, ltb}
 use lib.Ieee.{Float, binary64, add}
+use Rattle.std.specs.List.{fold, range_with_len}
 use borrow.Author.Tests.{ltb-true, ltb-false, leb-true, leb-false}
 use Rattle.activity_profile.specs.declared.BandPassActivityProfile.{BandPassActivityProfile}
 use Rattle.activity_profile.specs.declared.ActivityEvidence.TheVariants.{HighQualitySoftClips}
@@ -15,19 +17,15 @@ use Rattle.activity_profile.specs.Add.{counted, super_states, times}
 
 -- ---- the m-fold sum
 
-pub times_one : (w : Float) → times 1 w ≡ w
+-- one addition for each number of a range of m - 1
+pub times_by : (a m : ℕ) (w : Float) → fold (λ sum _. add binary64 sum w) w (range_with_len a (m - 1)) ≡ times m w
 unfolding times
-times_one w = refl
-
-pub times-turn : (k : ℕ) (w : Float) → 1 ≤ k → add binary64 (times k w) w ≡ times (k + 1) w
-unfolding times
-times-turn zero w h = absurd (omega arith)
-times-turn (suc k) w h = rw add-one
-
-pub times_end : (m k : ℕ) (w : Float) → 1 ≤ k → k ≤ max m 1 → m ≤ k → times k w ≡ times m w
-unfolding times
-times_end zero k w h₁ h₂ h₃ = let e : k ≡ 1 = omega arith in rw e
-times_end (suc m) k w h₁ h₂ h₃ = let e : k ≡ suc m = omega arith in rw e
+times_by a zero w = refl
+times_by a (suc m) w = rw sub-one (go a m zero ∙ rw zero-add)
+  where
+    go : (a n k : ℕ) → fold (λ sum _. add binary64 sum w) (times (suc k) w) (range_with_len a n) ≡ times (suc (k + n)) w
+    go a zero k = rw add-zero
+    go a (suc n) k = let e : k + suc n ≡ suc k + n = omega arith in rw e (go (a + 1) n (suc k))
 
 -- ---- super states
 

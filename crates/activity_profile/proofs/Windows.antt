@@ -8,13 +8,14 @@ use native.Mathlib.Omega.{arith}
 use lib.Dec.{ltb}
 use lib.ListN.{length, take, drop}
 use lib.Ieee.{Float, nan}
+use Rattle.std.proofs.lemmas.List.{get_or-drop}
 use borrow.Author.Tests.{lt-ltb, le-ltb, le-leb, lt-leb, eqb-true, not-false}
 use Rattle.lists.specs.Each.{each, each_same}
 use Rattle.lists.specs.Window.{within, each_window, lt_or_le}
 use Rattle.activity_profile.specs.declared.BandPassActivityProfile.{BandPassActivityProfile}
 use Rattle.activity_profile.specs.declared.ActivityProfileState.{ActivityProfileState}
 use Rattle.activity_profile.specs.Verdict.{granted}
-use Rattle.activity_profile.specs.Add.{at, super_states, spreads, received, first_locus, lowest, highest, needed, add_verdict, added_cell}
+use Rattle.activity_profile.specs.Add.{at, super_states, spreads, received, weight, first_locus, lowest, highest, needed, add_verdict, added_cell}
 use Rattle.activity_profile.specs.Window.{receiving, lo, hi, off, held}
 use Rattle.lists.specs.Tests.{or_right}
 use Rattle.activity_profile.proofs.Verdicts.{this_not}
@@ -84,7 +85,12 @@ ltb_less a i n h =
     (lt_or_le i n)
 
 abbrev pub gain : BandPassActivityProfile → List Float → ActivityProfileState → ℕ → Float → Float
-gain p k s = receiving k s (super_states p (at s) s.evidence) (off p s) (held p s)
+gain p k s = receiving (drop (off p s) k) s (super_states p (at s) s.evidence) (held p s)
+
+-- the kernel is lent from the window's entry on
+weight-drop : (k : List Float) (s : ActivityProfileState) (n j : ℕ) → weight (drop n k) s j ≡ weight k s (n + j)
+unfolding weight
+weight-drop k s n j = rw (get_or-drop n k j nan)
 
 module _ (p : BandPassActivityProfile) (k : List Float) (s : ActivityProfileState) (n m : ℕ) (r : Reached p s n m) where
   same-cell : (i : ℕ) (x : Float) → within (lo p s) (hi p s) (gain p k s) i x ≡ added_cell p k s i x
@@ -100,7 +106,7 @@ module _ (p : BandPassActivityProfile) (k : List Float) (s : ActivityProfileStat
       (λ v.
       let h₂ : first_locus p s + i ≤ highest p s = omega (arith, r.first, r.high) in
       let e : off p s + (i - lo p s) ≡ first_locus p s + i + p.filter_size - at s = omega (arith, r.near) in
-      rw (le-ltb i (lo p s) u, lt-ltb i (hi p s) v, le-leb (lowest p s) (first_locus p s + i) h₁, le-leb (first_locus p s + i) (highest p s) h₂, e, ltb_less (lo p s) i p.count u))
+      rw (le-ltb i (lo p s) u, lt-ltb i (hi p s) v, le-leb (lowest p s) (first_locus p s + i) h₁, le-leb (first_locus p s + i) (highest p s) h₂, weight-drop k s (off p s) (i - lo p s), e, ltb_less (lo p s) i p.count u))
       (λ v.
       let h₂ : highest p s < first_locus p s + i = omega arith in
       rw (le-ltb i (lo p s) u, le-ltb i (hi p s) v, le-leb (lowest p s) (first_locus p s + i) h₁, lt-leb (first_locus p s + i) (highest p s) h₂))

@@ -6,15 +6,12 @@ use Rattle.activity_profile.specs.declared.BandPassActivityProfile.{BandPassActi
 use Rattle.activity_profile.specs.declared.ActivityProfileState.{ActivityProfileState}
 use Rattle.activity_profile.specs.Add.{at, times, weight, first_locus, lowest, highest}
 
--- cell j of the window, which is x: one addition among the first `held`, else the next new cell
-unfoldable pub receiving : List Float → ActivityProfileState → ℕ → ℕ → ℕ → ℕ → Float → Float
-receiving kernel s m off held j x =
-    let w = times m (weight kernel s (off + j)) in
+-- cell j of the window, which is x, and whose entry of the kernel, lent from the window's front on, is j too: one addition among the first
+-- `held`, else the next new cell
+unfoldable pub receiving : List Float → ActivityProfileState → ℕ → ℕ → ℕ → Float → Float
+receiving kernel s m held j x =
+    let w = times m (weight kernel s j) in
     cond (ltb j held) (add binary64 x w) w
-
--- the same in two halves: the held cells' rule is `receiving`; from cell n on each becomes new, and the others stay
-unfoldable pub renewed : List Float → ActivityProfileState → ℕ → ℕ → ℕ → ℕ → Float → Float
-renewed kernel s m off n j x = cond (ltb j n) x (times m (weight kernel s (off + j)))
 
 -- the window in the cells, the kernel's entry at its front, and how many of its cells are held
 abbrev pub lo : BandPassActivityProfile → ActivityProfileState → ℕ
