@@ -28,11 +28,11 @@ pub fn genotype_contribution(qual: u8, is_alt: bool, genotype: usize, ploidy: Pl
 }
 
 // The probability that a base of this quality is wrong.
-#[tactic(auto, unfolding(crate::specs::Contribution::error_prob))]
+#[tactic(auto, unfolding(crate::specs::Contribution::error_prob, error_probabilities::specs::ErrorProb::error_prob))]
 pub fn error_prob(qual: u8) -> f64
     ensures { result ≡ error_prob qual }
 {
-    elementary::ten_to(-(qual as f64) / 10.0)
+    error_probabilities::error_probability_by_steps(qual)
 }
 
 // log10 of the probability that a base of this quality is right.
