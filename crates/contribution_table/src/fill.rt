@@ -14,10 +14,8 @@ pub fn fill_contribution_table(table: &mut [f64], params: HaplotypeCallerActivit
     if table.len() < n {
         return;
     }
-    let mut j = 0;
-    while j < n {
+    for j in 0..n {
         table[j] = cell_at(j, params);
-        j += 1;
     }
 }
 
@@ -36,6 +34,7 @@ pub fn row_length(ploidy: Ploidy) -> usize
 }
 
 // What stands at a place of the table: the two settings that it carries, then the rows.
+#[tactic(auto, using(std::proofs::lemmas::Bool::Decides::nat_tests), unfolding(crate::specs::Table::cell_at))]
 fn cell_at(j: usize, params: HaplotypeCallerActivityScoringParams) -> f64
     requires { j < table_length (ploidy_of params) }
     ensures { result ≡ cell_at params j }
@@ -51,6 +50,7 @@ fn cell_at(j: usize, params: HaplotypeCallerActivityScoringParams) -> f64
 }
 
 // What stands at a place of the rows.
+#[tactic(auto, using(std::proofs::lemmas::Bool::Decides::nat_tests), unfolding(crate::specs::Table::entry_at))]
 fn entry_at(j: usize, params: HaplotypeCallerActivityScoringParams) -> f64
     requires { j < rows_length (ploidy_of params) }
     ensures { result ≡ entry_at params j }

@@ -7,6 +7,7 @@
 
 mod fill;
 mod likelihoods;
+mod rows;
 
 pub use fill::{fill_contribution_table, table_length};
 pub use likelihoods::calc_ref_vs_any_log10_genotype_likelihoods_by_table;
@@ -17,7 +18,8 @@ pub const HEADING: usize = 2;
 // A row for each quality below the missing one, plain and alternate.
 pub const ROWS: usize = 510;
 
-// The sums of four genotypes over some words, and how many of the words were not skipped.
+// The sums of four genotypes over some words, and how many of the words were not skipped. Four fields and no array: so the
+// sums of a pile stay in registers, and the law of each of them is that of its field.
 #[derive(Clone, Copy)]
 pub struct Sums {
     pub count: u64,

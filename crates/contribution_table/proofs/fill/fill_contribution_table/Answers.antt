@@ -10,7 +10,7 @@ unfolding filled
 returns-then-table-n c = simp (lt-ltb _ _ (subst (λ (m : ℕ). length c.args.table.now < m) c.table_length-n.ensures c.if-table-n.true))
 
 pub loop-j-init : goal.loop-j-init
-loop-j-init c = (omega arith, c.if-table-n.false, refl, sym (up_to_zero _ _))
+loop-j-init c = record { same_length = refl; filled = sym (up_to_zero _ _) }
 
 pub cell_at-requires : goal.cell_at-requires
 cell_at-requires c = rw (← c.table_length-n.ensures) c.loop-j-test.true
@@ -20,10 +20,13 @@ loop-j-preserved c =
     let at = c in
     let a = at.args in
     let below : at.loop-j.j < table_length (ploidy_of a.params) = rw (← at.table_length-n.ensures) c.loop-j-test.true in
-    (omega arith, at.loop-j.invariant.1, simp length-set at.loop-j.invariant.2, up_to_put (tabled a.params) at.loop-j.j _ _ nan _ at.loop-j.invariant.3 (omega arith) (simp (lt-ltb _ _ below) c.cell_at.ensures))
+    record {
+      same_length = simp length-set at.loop-j.invariant.same_length;
+      filled = up_to_put (tabled a.params) at.loop-j.j _ _ nan _ at.loop-j.invariant.filled (omega arith) (simp (lt-ltb _ _ below) c.cell_at.ensures);
+    }
 
 pub shape_of-table : goal.shape_of-table
-shape_of-table c = c.loop-j.invariant.2
+shape_of-table c = c.loop-j.invariant.same_length
 
 pub returns : goal.returns
 unfolding filled
@@ -33,4 +36,4 @@ returns c =
     let n = at.table_length-n.ensures in
     let done : at.loop-j.j ≡ table_length (ploidy_of a.params) = omega (arith, n) in
     simp (le-ltb (length a.table.now) (table_length (ploidy_of a.params)) (omega (arith, n)))
-    (at.loop-j.invariant.3 ∙ up_to-rest (tabled a.params) _ a.table.now (λ k x h. simp (le-ltb k (table_length (ploidy_of a.params)) (omega arith))))
+    (at.loop-j.invariant.filled ∙ up_to-rest (tabled a.params) _ a.table.now (λ k x h. simp (le-ltb k (table_length (ploidy_of a.params)) (omega arith))))

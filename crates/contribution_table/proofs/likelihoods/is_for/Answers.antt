@@ -1,6 +1,6 @@
 -- `is_for` meets its contract.
 use Rattle.std.proofs.Common.{◌≡◌, arith, length, sym, eq-eqb}
-use Rattle.contribution_table.proofs.Rows.{other_length}
+use Rattle.contribution_table.proofs.Places.{other_length}
 use Rattle.contribution_table.specs.Table.{ploidy_of, serves, table_length}
 use Rattle.contribution_table.proofs.likelihoods.is_for.Goals as goal
 

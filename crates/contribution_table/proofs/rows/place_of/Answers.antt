@@ -1,7 +1,7 @@
 -- `place_of` meets its contract: four entries from i on are in the row.
 use Rattle.std.proofs.Common.{arith}
-use Rattle.contribution_table.proofs.Rows.{in_row, row_small}
-use Rattle.contribution_table.proofs.likelihoods.place_of.Goals as goal
+use Rattle.contribution_table.proofs.Places.{in_row, row_small}
+use Rattle.contribution_table.proofs.rows.place_of.Goals as goal
 
 pub overflow_mul-result : goal.overflow_mul-result
 overflow_mul-result c =
