@@ -1,3 +1,4 @@
 pub mod Arrays
 pub mod Compare
 pub mod Read
+pub mod Functions

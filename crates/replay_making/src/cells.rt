@@ -9,13 +9,9 @@ pub(crate) fn cells_needed(words: &[u64]) -> bool {
         number_at(words, 2),
         number_at(words, 3),
     );
+    let c = Compared::from(words, 4);
     match needed {
-        Ok(n) => Compared::from(4)
-            .word(words, 0)
-            .word(words, n as u64)
-            .whole(words),
-        Err(why) => Compared::from(4)
-            .word(words, why.number() as u64)
-            .whole(words),
+        Ok(n) => c.word(0).word(u64::from(n)).whole(),
+        Err(why) => c.word(u64::from(why.number())).whole(),
     }
 }

@@ -7,14 +7,19 @@ mod run;
 
 ghost use Rattle.std.specs.Prelude.{◌≡◌, ◌≤◌, true};
 
+use answer_list::Function;
+
 // Whether the library's results are those of the answer; true of these functions alone.
 pub fn replay(function: u64, words: &[u64]) -> bool
     ensures { result ≡ true → (10 ≤ function) × (function ≤ 12) }
 {
-    match function {
-        10 => call::add(words),
-        11 => call::pop(words),
-        12 => run::run(words),
+    let Ok(asked) = Function::try_from(function) else {
+        return false;
+    };
+    match asked {
+        Function::Add => call::add(words),
+        Function::Pop => call::pop(words),
+        Function::Run => run::run(words),
         _ => false,
     }
 }

@@ -1,120 +1,68 @@
 // Runs: a making, and a list of calls on the profile, each of which gets the record and the cells as the call before left them.
 use crate::call;
-use crate::call::plus;
 use activity_profile::BandPassActivityProfile;
-use answer_list::{Compared, number_at, word_at};
-
-// How far a run has come.
-#[derive(Clone, Copy)]
-struct Running {
-    compared: Compared,
-    profile: BandPassActivityProfile,
-}
+use answer_list::{Compared, filled, length_at, number_at, word_at};
+use std::num::wrapping_add_usize;
 
 // contig, contig length, distance, threshold, max filter, sigma, adaptive, fill, n, how many calls; then each call.
 pub(crate) fn run(words: &[u64]) -> bool {
-    let n = answer_list::length_at(words, 8);
+    let params = replay_making::params_of(words);
     let mut full = [0.0f64; 64];
     let mut narrow = [0.0f64; 64];
-    let mut cells = answer_list::filled(word_at(words, 7));
-    run_in(words, &mut full, &mut narrow, &mut cells[..n])
-}
-
-fn run_in(words: &[u64], full: &mut [f64], narrow: &mut [f64], cells: &mut [f64]) -> bool {
     let made = profile_record::new(
         number_at(words, 0),
         number_at(words, 1),
-        replay_making::params_of(words),
-        full,
-        narrow,
+        params,
+        &mut full,
+        &mut narrow,
     );
-    match made {
-        Ok(p) => run_profile(words, p, full, narrow, cells),
-        Err(_) => false,
-    }
-}
-
-// The calls on a profile, whose kernel stands in the buffers.
-fn run_profile<'a>(
-    words: &[u64],
-    p: BandPassActivityProfile,
-    full: &'a [f64],
-    narrow: &'a [f64],
-    cells: &mut [f64],
-) -> bool {
-    let kernel = replay_making::params_of(words).normalized_kernel(p.filter_size, full, narrow);
-    run_calls(words, p, kernel, cells)
+    let Ok(p) = made else {
+        return false;
+    };
+    let kernel = params.normalized_kernel(p.filter_size, &full, &narrow);
+    let mut room = filled(word_at(words, 7));
+    run_calls(words, p, kernel, &mut room[..length_at(words, 8)])
 }
 
 // The calls, from word 10 on.
 fn run_calls(words: &[u64], p: BandPassActivityProfile, kernel: &[f64], cells: &mut [f64]) -> bool {
-    let mut calls = word_at(words, 9);
-    let mut r = Running {
-        compared: Compared { at: 10, same: true },
-        profile: p,
-    };
-    while calls > 0 {
-        r = run_call(words, r, kernel, cells);
-        calls -= 1;
+    let mut c = Compared::from(words, 10);
+    let mut profile = p;
+    for _ in 0..word_at(words, 9) {
+        (c, profile) = with_call(c, profile, kernel, cells);
     }
-    let c = r.compared;
-    c.whole(words)
+    c.whole()
 }
 
-// One call: 0 and a state, with the refusal's number or 0; or 1 and the sizes of a pop, with its answer; then region
-// start, last input, count and cells[n].
-fn run_call(words: &[u64], r: Running, kernel: &[f64], cells: &mut [f64]) -> Running {
-    let c = r.compared;
-    let p = r.profile;
-    if word_at(words, c.at) == 0 {
-        return run_add(words, c, p, kernel, cells);
-    }
-    run_pop(words, c, p, cells)
-}
-
-fn run_add(
-    words: &[u64],
-    c: Compared,
+// With one call compared: 0 and a state, with the refusal's number or 0; or 1 and the sizes of a pop, with its answer; then
+// region start, last input, count and cells[n]. And the record that the call hands back.
+fn with_call<'a>(
+    c: Compared<'a>,
     p: BandPassActivityProfile,
     kernel: &[f64],
     cells: &mut [f64],
-) -> Running {
-    let added = profile_add::add(p, call::state_at(words, plus(c.at, 1)), kernel, cells);
-    let d = Compared {
-        at: plus(c.at, 6),
-        same: c.same,
+) -> (Compared<'a>, BandPassActivityProfile) {
+    let words = c.words;
+    let arguments = wrapping_add_usize(c.at, 1);
+    let (called, after) = if word_at(words, c.at) == 0 {
+        let added = profile_add::add(p, call::state_at(words, arguments), kernel, cells);
+        call::with_added(behind(c, 6), added)
+    } else {
+        let popped = call::pop_at(words, arguments, p, cells);
+        call::with_popped(behind(c, 5), popped)
     };
-    after(
-        words,
-        call::added_number(words, d, added),
-        call::added_record(added),
-        cells,
-    )
+    let compared = called
+        .word(u64::from(after.region_start))
+        .word(u64::from(after.last_input_pos))
+        .word(u64::from(after.count))
+        .doubles(cells);
+    (compared, after)
 }
 
-fn run_pop(words: &[u64], c: Compared, p: BandPassActivityProfile, cells: &mut [f64]) -> Running {
-    let popped = call::pop_at(words, p, plus(c.at, 1), cells);
-    let d = Compared {
-        at: plus(c.at, 5),
-        same: c.same,
-    };
-    after(
-        words,
-        call::answer(words, d, popped),
-        call::popped_record(popped),
-        cells,
-    )
-}
-
-// With the record and the cells after the call compared.
-fn after(words: &[u64], c: Compared, p: BandPassActivityProfile, cells: &[f64]) -> Running {
-    let compared = c
-        .word(words, p.region_start as u64)
-        .word(words, p.last_input_pos as u64)
-        .word(words, p.count as u64)
-        .doubles(words, cells);
-    Running {
-        compared,
-        profile: p,
+// Past n words, which are arguments.
+fn behind<'a>(c: Compared<'a>, n: usize) -> Compared<'a> {
+    Compared {
+        at: wrapping_add_usize(c.at, n),
+        ..c
     }
 }
