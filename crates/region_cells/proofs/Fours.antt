@@ -1,7 +1,8 @@
 -- Four cells at a time: four turns of the walk for the peak, and four cells that are on one side. Assumes nothing.
-use mathlib.Core.Path.{◌≡◌, ◌∙◌}
-use mathlib.Core.Bool.{Bool, false, true, ◌||◌}
-use mathlib.Core.List.{List}
+use mathlib.Core.Path.{◌≡◌, ◌∙◌, refl}
+use mathlib.Core.Bool.{Bool, false, true, ◌||◌, cond, not}
+use mathlib.Core.List.{List, [], ◌∷◌}
+use Rattle.std.specs.List.{prefix_len}
 use Prim.Native.Nat.{ℕ, suc, ◌+◌, ◌≤◌}
 use native.Mathlib.Omega.{arith}
 use lib.ListN.{length, get_or, drop}
@@ -46,6 +47,16 @@ none-leads xs i leader e =
     four_turns xs i leader ∙ rw (leaves_lead xs i leader n.0, leaves_lead xs (i + 1) leader n.1, leaves_lead xs (i + 2) leader n.2, leaves_lead xs (i + 3) leader n.3)
 
 -- ---- the boundary
+
+-- The first that passes stands behind those that do not.
+pub first_at-prefix : {A : Type 0} (p : A → Bool) (l : List A) → prefix_len (λ x. not (p x)) l ≡ first_at p l
+unfolding first_at
+first_at-prefix p [] = refl
+first_at-prefix p (x ∷ l) = go (p x) (first_at-prefix p l)
+  where
+    go : (b : Bool) → prefix_len (λ y. not (p y)) l ≡ first_at p l → cond (not b) (1 + prefix_len (λ y. not (p y)) l) 0 ≡ cond b 0 (suc (first_at p l))
+    go true e = refl
+    go false e = omega arith
 
 module _ {A : Type 0} (p : A → Bool) (l : List A) (d : A) where
   -- Behind four that do not pass, the first that passes is further on.

@@ -1,10 +1,58 @@
 // Document 01, 'Popping': the end of a region.
-ghost use Rattle.std.specs.Prelude.{◌≡◌, ◌+◌, ◌≤◌, length, take, drop};
+ghost use Rattle.std.specs.Prelude.{◌≡◌, ◌+◌, ◌≤◌, not, length, take, drop};
+ghost use Rattle.std.specs.List.{prefix_len};
 ghost use Rattle.lists.specs.Loops.{first_at};
 ghost use Rattle.activity_profile.specs.Pop.{other_side};
 ghost use Rattle.region_cells.specs.Fours.{one_of_four, other_at};
 
-use numbers::lesser;
+// The side of the threshold that a region is on.
+#[derive(Clone, Copy)]
+struct Side {
+    threshold: f64,
+    active: bool,
+}
+
+impl Side {
+    // Whether a cell is on the other side.
+    fn is_other(self, x: f64) -> bool
+        ensures { result ≡ other_side self.threshold self.active x }
+    {
+        (x > self.threshold) != self.active
+    }
+
+    // Whether one of the four cells from i on is on the other side. All four are compared, and one test tells.
+    fn leaves_in_four(self, cells: &[f64], i: usize) -> bool
+        requires { i + 4 ≤ length cells.now }
+        ensures { result ≡ one_of_four (other_at self.threshold self.active cells.now) i }
+    {
+        self.is_other(cells[i])
+            | self.is_other(cells[i + 1])
+            | self.is_other(cells[i + 2])
+            | self.is_other(cells[i + 3])
+    }
+
+    // How many cells are on this side, four at a time: none of them is the first on the other.
+    fn fours(self, cells: &[f64]) -> usize
+        ensures { (result ≤ length cells.now)
+            × (result + first_at (other_side self.threshold self.active) (drop result cells.now)
+            ≡ first_at (other_side self.threshold self.active) cells.now) }
+    {
+        let n = cells.len() / 4;
+        for k in 0..n {
+            if self.leaves_in_four(cells, 4 * k) {
+                return 4 * k;
+            }
+        }
+        4 * n
+    }
+
+    // How many cells are on this side before the first on the other.
+    fn run(self, cells: &[f64]) -> usize
+        ensures { result ≡ prefix_len (λ x. not (other_side self.threshold self.active x)) cells.now }
+    {
+        cells.iter().take_while(|x| !self.is_other(**x)).count()
+    }
+}
 
 // The first cell on the other side, or max, or the count.
 pub fn find_first_activity_boundary(
@@ -16,45 +64,8 @@ pub fn find_first_activity_boundary(
     ensures { (result ≡ first_at (other_side threshold active) (take most states.now))
         × (result ≤ length states.now) }
 {
-    let mut end = fours_on_one_side(states, threshold, active, most);
-    while end < states.len() {
-        if end == most {
-            return end;
-        }
-        let above = states[end] > threshold;
-        if above != active {
-            return end;
-        }
-        end += 1;
-    }
-    end
-}
-
-// How many cells are on one side, four at a time: none of them is the first on the other.
-fn fours_on_one_side(states: &[f64], threshold: f64, active: bool, most: usize) -> usize
-    ensures { (result ≤ length states.now)
-        × (result ≤ most)
-        × (result + first_at (other_side threshold active) (drop result (take most states.now))
-        ≡ first_at (other_side threshold active) (take most states.now)) }
-{
-    let n = lesser(most as u64, states.len() as u64) as usize;
-    let mut end = 0;
-    while end + 4 <= n {
-        if differs_in_four(states, threshold, active, end) {
-            return end;
-        }
-        end += 4;
-    }
-    end
-}
-
-// Whether one of four cells is on the other side.
-fn differs_in_four(states: &[f64], threshold: f64, active: bool, i: usize) -> bool
-    requires { i + 4 ≤ length states.now }
-    ensures { result ≡ one_of_four (other_at threshold active states.now) i }
-{
-    ((states[i] > threshold) != active)
-        | ((states[i + 1] > threshold) != active)
-        | ((states[i + 2] > threshold) != active)
-        | ((states[i + 3] > threshold) != active)
+    let side = Side { threshold, active };
+    let kept = &states[..most.min(states.len())];
+    let from = side.fours(kept);
+    from + side.run(&kept[from..])
 }

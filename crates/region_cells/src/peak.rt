@@ -1,5 +1,5 @@
 // Document 02, U2: the peak of a region.
-ghost use Rattle.std.specs.Prelude.{◌≡◌, ◌+◌, ◌-◌, ◌≤◌, ◌<◌, length};
+ghost use Rattle.std.specs.Prelude.{◌≡◌, ◌+◌, ◌-◌, ◌≤◌, ◌<◌, length, max};
 ghost use Rattle.lists.specs.Loops.{along};
 ghost use Rattle.activity_profile.specs.Peak.{leads, peak_index};
 
@@ -8,14 +8,12 @@ ghost use Rattle.activity_profile.specs.Peak.{leads, peak_index};
 pub fn peak_index(cells: &[f64]) -> usize
     ensures { result ≡ peak_index cells.now }
 {
-    let n = cells.len();
+    let fours = cells.len().saturating_sub(1) / 4;
     let mut leader = 0;
-    let mut i = 1;
-    while i + 4 <= n {
-        leader = after_four(cells, i, leader);
-        i += 4;
+    for k in 0..fours {
+        leader = after_four(cells, 4 * k + 1, leader);
     }
-    after_the_rest(cells, i, leader)
+    after_turns(cells, 4 * fours + 1, cells.len(), leader)
 }
 
 // The leader once cells i to i + 3 had their turns.
@@ -26,32 +24,19 @@ fn after_four(cells: &[f64], i: usize, leader: usize) -> usize
     let x = cells[leader];
     let above = (x < cells[i]) | (x < cells[i + 1]) | (x < cells[i + 2]) | (x < cells[i + 3]);
     if above {
-        return each_of_four(cells, i, leader);
+        return after_turns(cells, i, i + 4, leader);
     }
     leader
 }
 
-// The same, one by one.
-fn each_of_four(cells: &[f64], i: usize, leader: usize) -> usize
-    requires { (leader < i) × (i + 4 ≤ length cells.now) }
-    ensures { (result ≡ along (leads cells.now) i 4 leader) × (result < i + 4) }
-{
-    let first = after_turn(cells, i, leader);
-    let second = after_turn(cells, i + 1, first);
-    let third = after_turn(cells, i + 2, second);
-    after_turn(cells, i + 3, third)
-}
-
-// The leader once all the cells from `from` on had their turns, `first` being the leader before them.
-fn after_the_rest(cells: &[f64], from: usize, first: usize) -> usize
-    requires { first < from }
-    ensures { result ≡ along (leads cells.now) from (length cells.now - from) first }
+// The leader once the cells from `from` up to `to` had their turns one by one, `first` being the leader before them.
+fn after_turns(cells: &[f64], from: usize, to: usize, first: usize) -> usize
+    requires { (first < from) × (to ≤ length cells.now) }
+    ensures { (result ≡ along (leads cells.now) from (to - from) first) × (result < max from to) }
 {
     let mut leader = first;
-    let mut i = from;
-    while i < cells.len() {
+    for i in from..to {
         leader = after_turn(cells, i, leader);
-        i += 1;
     }
     leader
 }

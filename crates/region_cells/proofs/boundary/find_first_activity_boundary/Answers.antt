@@ -1,35 +1,34 @@
--- `find_first_activity_boundary` meets its contract: what is left of the cells, searched from here, comes to the first of all.
-use Prim.Native.Nat.{◌<◌}
-use mathlib.Core.Path.{◌∙◌, sym}
+-- `find_first_activity_boundary` meets its contract: behind the fours that are on one side, the rest is searched.
+use Prim.Native.Nat.{◌+◌, ◌≤◌}
+use mathlib.Core.Path.{◌∙◌, ◌≡◌, ap}
 use native.Mathlib.Omega.{arith}
-use lib.Ieee.{nan}
-use lib.ListN.{length-take, take}
-use lib.Seq.{get_or-take}
+use lib.ListN.{drop, length, length-drop, length-take, take}
+use Rattle.std.proofs.lemmas.List.{take_all, take_min}
 use Rattle.activity_profile.specs.Pop.{other_side}
-use Rattle.lists.specs.Loops.{first_at_end, first_at_stop, first_at-turn}
+use Rattle.lists.specs.Loops.{first_at, first_at-le}
+use Rattle.region_cells.proofs.Fours.{first_at-prefix}
 use Rattle.region_cells.proofs.boundary.find_first_activity_boundary.Goals as goal
+use Rattle.region_cells.proofs.boundary.find_first_activity_boundary.Goals.{After-run}
 
-pub loop-end-init : goal.loop-end-init
-loop-end-init c = c.fours_on_one_side-end.ensures
-
-pub returns-then-end-most : goal.returns-then-end-most
-returns-then-end-most c =
+-- with the rest, the first of all that are kept
+size-is : (c : After-run) → let a = c.args in
+    c.fours-from.result + c.run.result ≡ first_at (other_side a.threshold a.active) (take a.most a.states.now)
+size-is c =
     let a = c.args in
-    (sym (first_at_end (other_side a.threshold a.active) (take a.most a.states.now) c.loop-end.end (simp length-take (omega arith))) ∙ c.loop-end.invariant.2, omega arith)
+    let side = other_side a.threshold a.active in
+    let kept = take c.min.result a.states.now in
+    let rest : c.run.result ≡ first_at side (drop c.fours-from.result kept) =
+    c.run.ensures ∙ first_at-prefix side _ ∙ ap (first_at side) (take_all _ _ (simp length-drop (omega arith))) in
+    rw rest (c.fours-from.ensures.1 ∙ rw c.min.ensures (ap (first_at side) (take_min a.most a.states.now)))
 
-pub returns-then-above-active : goal.returns-then-above-active
-returns-then-above-active c =
+-- which is no more than the count
+size-fits : (c : After-run) → c.fours-from.result + c.run.result ≤ length c.args.states.now
+size-fits c =
     let a = c.args in
-    let h : c.loop-end.end < a.most = omega (arith, c.if-end-most.false) in
-    (sym (first_at_stop (other_side a.threshold a.active) (take a.most a.states.now) c.loop-end.end nan (simp length-take (omega arith)) (rw get_or-take c.if-above-active.true)) ∙ c.loop-end.invariant.2, omega arith)
+    omega (arith, size-is c, first_at-le (other_side a.threshold a.active) (take a.most a.states.now), length-take a.most a.states.now)
 
-pub loop-end-preserved : goal.loop-end-preserved
-loop-end-preserved c =
-    let a = c.args in
-    let h : c.loop-end.end < a.most = omega (arith, c.if-end-most.false) in
-    (omega arith, omega arith, first_at-turn (other_side a.threshold a.active) (take a.most a.states.now) c.loop-end.end nan (simp length-take (omega arith)) (rw get_or-take c.if-above-active.false) ∙ c.loop-end.invariant.2)
+pub overflow_add-result : goal.overflow_add-result
+overflow_add-result c = omega (arith, size-fits c)
 
 pub returns : goal.returns
-returns c =
-    let a = c.args in
-    (sym (first_at_end (other_side a.threshold a.active) (take a.most a.states.now) c.loop-end.end (simp length-take (omega arith))) ∙ c.loop-end.invariant.2, omega arith)
+returns c = (size-is (goal.at.returns c).After-run, size-fits (goal.at.returns c).After-run)
