@@ -8,6 +8,7 @@ use genotype_likelihoods::HaplotypeCallerActivityScoringParams;
 use pileup_words::{NEXT_TO_CLIP, PileupObservation};
 
 // Over the alternate observations next to a soft clip that are not skipped, in their order; 0.0 where there is none.
+#[tactic(auto, unfolding(crate::specs::Mean::mean_of))]
 pub fn hq_soft_clip_running_mean_rcm_path(
     pile: &[u32],
     params: HaplotypeCallerActivityScoringParams,
@@ -21,25 +22,19 @@ pub fn hq_soft_clip_running_mean_rcm_path(
         count: 0,
         mean: 0.0,
     };
-    let mut i = 0;
-    while i < pile.len() {
-        r = with_word(r, pile[i], params);
-        i += 1;
+    for w in pile {
+        r = with_word(r, *w, params);
     }
     r.mean
 }
 
 // Whether any observation is alternate and next to a soft clip, skipped or not. Few piles have one, and only those need a mean.
+// A fold, which has no branch for a word, as `any` would.
 fn has_clips(pile: &[u32]) -> bool
     ensures { result ≡ fold or_next_to_clip false pile.now }
 {
-    let mut found = false;
-    let mut i = 0;
-    while i < pile.len() {
-        found = found | is_next_to_clip(pile[i]);
-        i += 1;
-    }
-    found
+    pile.iter()
+        .fold(false, |found, w| found | is_next_to_clip(*w))
 }
 
 // Two bits that stand side by side, tested at once.

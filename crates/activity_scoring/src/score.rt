@@ -62,23 +62,19 @@ pub fn haplotype_caller_activity_profile_state_by_tables(
 pub fn is_in_range(pos: GenomePosition, params: HaplotypeCallerActivityScoringParams) -> bool
     ensures { result ≡ in_range pos params }
 {
-    params.in_range() & numbers::within_u32(1, pos.0, genome::MAX_POSITION)
+    params.in_range() & (1..=genome::MAX_POSITION).contains(&pos.0)
 }
 
-// Whether every word is an observation: document 01's refusal 3.
+// Whether every word is an observation: document 01's refusal 3. A fold, which has no branch for a word, as `all` would.
 pub fn are_observations(pile: &[u32]) -> bool
     ensures { result ≡ all_observations pile.now }
 {
-    let mut all = true;
-    let mut i = 0;
-    while i < pile.len() {
-        all = all & PileupObservation::is_word(pile[i]);
-        i += 1;
-    }
-    all
+    pile.iter()
+        .fold(true, |all, w| all & PileupObservation::is_word(*w))
 }
 
 // The state of a pile whose score is not refused. An empty pile has no activity.
+#[tactic(auto, using(std::proofs::lemmas::Bool::Decides::nat_tests), unfolding(crate::specs::Score::state_with))]
 fn state_of(
     contig: u32,
     pos: GenomePosition,
@@ -109,11 +105,12 @@ fn state_of(
 }
 
 // The evidence that a mean of clip counts makes.
+#[tactic(auto, unfolding(crate::specs::Score::evidence_of))]
 pub fn evidence_of(mean: f64) -> ActivityEvidence
     ensures { result ≡ evidence_of mean }
 {
     if mean > AVERAGE_HQ_SOFTCLIPS_HQ_BASES_THRESHOLD {
-        let clip_bases = numbers::as_u32(mean);
+        let clip_bases = std::num::saturating_f64_to_u32(mean);
         return ActivityEvidence::HighQualitySoftClips { clip_bases };
     }
     ActivityEvidence::Plain
@@ -130,31 +127,29 @@ pub fn activity_of(
 {
     let p = params.sample_ploidy;
     if p.0 <= 3 {
-        let mut few = [0.0; 4];
-        return activity_at_front(&mut few, pile, params, tables);
+        return activity_in_array::<4>(pile, params, tables);
     }
     if p.0 <= 100 {
-        let mut many = [0.0; 101];
-        return activity_at_front(&mut many, pile, params, tables);
+        return activity_in_array::<101>(pile, params, tables);
     }
-    let mut most = [0.0; 256];
-    activity_at_front(&mut most, pile, params, tables)
+    activity_in_array::<256>(pile, params, tables)
 }
 
-fn activity_at_front(
-    gl: &mut [f64],
+// The activity, in an array of N likelihoods, of which the first ploidy + 1 are lent.
+fn activity_in_array<const N: usize>(
     pile: &[u32],
     params: HaplotypeCallerActivityScoringParams,
     tables: ScoringTables,
 ) -> Activity
-    requires { params.sample_ploidy.0 < length gl.old }
+    requires { (params.sample_ploidy.0 < N) × (N ≤ 256) }
     ensures { result ≡ activity_by tables.entry.contributions.now tables.entry.priors.now pile.now params }
 {
-    let p = params.sample_ploidy;
-    let n = p.0 as usize + 1;
+    let mut gl = [0.0; N];
+    let n = params.sample_ploidy.0 as usize + 1;
     activity_in(&mut gl[..n], pile, params, tables)
 }
 
+#[tactic(auto, unfolding(crate::specs::Tables::activity_by))]
 fn activity_in(
     gl: &mut [f64],
     pile: &[u32],
