@@ -1,21 +1,24 @@
 // The region program but for reading and writing, document 01's chapter of that name: one event in, one answer out. No
 // public function has a `requires`.
 //
-// The stream's state goes in by value and comes back. The pile that is being read, the kernel, the cells and the tables
-// that piles are scored by are lent.
+// The stream's state goes in by value and comes back. Its memory and the tables that piles are scored by are lent.
 #![tactic(auto)]
 
-ghost use Rattle.std.specs.Prelude.{◌≡◌, ℕ, List, take, Float};
+ghost use Rattle.std.specs.Prelude.{◌≡◌, ℕ, List, Float};
 ghost use Rattle.pileup_words.specs.declared.StreamEvent.TheVariants.{Locus, Observation, Pop, Setting as SettingEvent};
 ghost use Rattle.region_program.specs.declared.Phase.TheVariants.{Settings, Loci, Pile};
 ghost use Rattle.region_program.specs.Program.{next, Scoring};
-ghost use Rattle.region_program.specs.Stream.{new_stream, stream_of, Stepped, EndsPile};
+ghost use Rattle.region_program.specs.Stream.{new_stream, stream_of, pile_of, refused_with, Stepped, EndsPile};
 ghost use Rattle.region_program.specs.Tables.{table_score};
 
 use activity_profile::{BandPassActivityProfile, Popped};
+use activity_scoring::ScoringTables;
 use genome::Refusal;
 use pileup_words::StreamEvent;
-use region_program::{CELLS, KERNEL, PILE, PRIORS, Phase, RegionStream, Step, TABLE};
+use region_program::{
+    CELLS, KERNEL, OpenPile, PILE, Phase, RefusedStep, RegionStream, Step, StreamMemory,
+    StreamRefusal, StreamTables,
+};
 use stream_settings::StreamSettings;
 
 // A stream before its first event.
@@ -44,186 +47,173 @@ pub fn new_stream() -> RegionStream
 pub fn act(
     event: StreamEvent,
     s: RegionStream,
-    pile: &mut [u32; PILE],
-    kernel: &mut [f64; KERNEL],
-    cells: &mut [f64; CELLS],
-    table: &[f64; TABLE],
-    priors: &[f64; PRIORS],
-) -> Step
-    ensures { Stepped (table_score table.now priors.now) event s
-        pile.old pile.new kernel.old kernel.new cells.old cells.new result }
+    memory: &mut StreamMemory,
+    tables: &StreamTables,
+) -> Result<Step, RefusedStep>
+    ensures { Stepped (table_score tables.now.contributions tables.now.priors) event s
+        memory.old.pile memory.new.pile memory.old.kernel memory.new.kernel
+        memory.old.cells memory.new.cells result }
 {
-    let phase = s.phase;
-    match phase {
-        Phase::Settings => before_loci(event, s, kernel),
-        Phase::Loci => between_piles(event, s, cells),
-        Phase::Pile {
-            locus,
-            locus_index,
-            depth,
-        } => within_pile(
-            event,
-            s,
-            locus,
-            locus_index,
-            depth,
-            pile,
-            kernel,
-            cells,
-            table,
-            priors,
-        ),
+    match s.phase {
+        Phase::Settings => before_loci(event, s, &mut memory.kernel),
+        Phase::Loci => between_piles(event, s, &mut memory.cells),
+        Phase::Pile(at) => within_pile(event, s, at, memory, tables),
     }
+}
+
+// An event that is refused at the word of an index: the stream is handed back as it was.
+fn refused(s: RegionStream, refusal: Refusal, index: u64) -> Result<Step, RefusedStep>
+    ensures { result ≡ refused_with refusal index s }
+{
+    let why = StreamRefusal { refusal, index };
+    Err(RefusedStep { why, stream: s })
 }
 
 // ---- before the first locus
 
 // A setting is taken, a locus has the profile made, and a pop has nothing to hand out.
-fn before_loci(event: StreamEvent, s: RegionStream, kernel: &mut [f64; KERNEL]) -> Step
+fn before_loci(
+    event: StreamEvent,
+    s: RegionStream,
+    kernel: &mut [f64; KERNEL],
+) -> Result<Step, RefusedStep>
     requires { s.phase ≡ Settings }
     ensures { (scoring : Scoring) (pile : List ℕ) (cells : List Float)
         → Stepped scoring event s pile pile kernel.old kernel.new cells cells result }
 {
     match event {
         StreamEvent::Locus { position } => open_first(s, position, kernel),
-        StreamEvent::Observation { word: _ } => Step::Refused(Refusal::Word, s.index, s),
+        StreamEvent::Observation { word: _ } => refused(s, Refusal::Word, s.index),
         StreamEvent::Pop { value } => pop_unmade(s, value),
         StreamEvent::Setting { field, value } => set_field(s, field, value),
-        StreamEvent::Remainder => Step::Refused(Refusal::Word, s.index, s),
-        StreamEvent::End => Step::Next(s),
+        StreamEvent::Remainder => refused(s, Refusal::Word, s.index),
+        StreamEvent::End => Ok(Step::Next(s)),
     }
 }
 
 // The first locus has the profile made.
-fn open_first(s: RegionStream, position: u32, kernel: &mut [f64; KERNEL]) -> Step
+fn open_first(
+    s: RegionStream,
+    position: u32,
+    kernel: &mut [f64; KERNEL],
+) -> Result<Step, RefusedStep>
     requires { s.phase ≡ Settings }
     ensures { (scoring : Scoring) (pile : List ℕ) (cells : List Float)
         → Stepped scoring (Locus position) s pile pile kernel.old kernel.new cells cells result }
 {
-    let settings = s.settings;
-    let made = stream_profile::make_profile(settings, kernel);
-    match made {
-        Ok(p) => Step::Next(opened(s, p, position)),
-        Err(why) => Step::Refused(why, s.index, s),
+    match stream_profile::make_profile(s.settings, kernel) {
+        Ok(p) => Ok(Step::Next(opened(s, p, position))),
+        Err(why) => refused(s, why, s.index),
     }
 }
 
 // The stream with the pile of a locus open.
 fn opened(s: RegionStream, p: BandPassActivityProfile, position: u32) -> RegionStream
-    ensures { result ≡ stream_of s.settings p (Pile position s.index 0) (next s.index) }
+    ensures { result ≡ stream_of s.settings p (Pile (pile_of position s.index 0)) (next s.index) }
 {
-    let phase = Phase::Pile {
+    let phase = Phase::Pile(OpenPile {
         locus: position,
         locus_index: s.index,
         depth: 0,
-    };
-    let settings = s.settings;
-    let index = std::num::wrapping_add_u64(s.index, 1);
+    });
     RegionStream {
-        settings,
         profile: p,
         phase,
-        index,
+        index: s.index.wrapping_add(1),
+        ..s
     }
 }
 
 // A pop before the first locus: there is nothing to hand out, but a size of 0 is refused.
-fn pop_unmade(s: RegionStream, value: u32) -> Step
+fn pop_unmade(s: RegionStream, value: u32) -> Result<Step, RefusedStep>
     requires { s.phase ≡ Settings }
     ensures { (scoring : Scoring) (pile : List ℕ) (kernel cells : List Float)
         → Stepped scoring (Pop value) s pile pile kernel kernel cells cells result }
 {
     if value > 1 {
-        return Step::Refused(Refusal::Word, s.index, s);
+        return refused(s, Refusal::Word, s.index);
     }
     let settings = s.settings;
     if (settings.min_region_size == 0) | (settings.max_region_size == 0) {
-        return Step::Refused(Refusal::ZeroSize, s.index, s);
+        return refused(s, Refusal::ZeroSize, s.index);
     }
-    Step::Next(advanced(s, s.profile))
+    Ok(Step::Next(advanced(s, s.profile)))
 }
 
 // The stream behind a word that leaves this record.
 fn advanced(s: RegionStream, p: BandPassActivityProfile) -> RegionStream
     ensures { result ≡ stream_of s.settings p s.phase (next s.index) }
 {
-    let mut t = s;
-    t.profile = p;
-    t.index = std::num::wrapping_add_u64(s.index, 1);
-    t
+    RegionStream {
+        profile: p,
+        index: s.index.wrapping_add(1),
+        ..s
+    }
 }
 
 // A setting.
-fn set_field(s: RegionStream, field: u32, value: u32) -> Step
+fn set_field(s: RegionStream, field: u32, value: u32) -> Result<Step, RefusedStep>
     requires { s.phase ≡ Settings }
     ensures { (scoring : Scoring) (pile : List ℕ) (kernel cells : List Float)
         → Stepped scoring (SettingEvent field value) s pile pile kernel kernel cells cells result }
 {
-    let settings = s.settings;
-    let setting = settings.with_field(field, value);
-    match setting {
-        Ok(t) => {
-            let mut u = s;
-            u.settings = t;
-            u.index = std::num::wrapping_add_u64(s.index, 1);
-            Step::Next(u)
-        }
-        Err(why) => Step::Refused(why, s.index, s),
+    match s.settings.with_field(field, value) {
+        Ok(settings) => Ok(Step::Next(RegionStream {
+            settings,
+            index: s.index.wrapping_add(1),
+            ..s
+        })),
+        Err(why) => refused(s, why, s.index),
     }
 }
 
 // ---- past it, with no pile open
 
 // A locus opens its pile, and a pop pops once.
-fn between_piles(event: StreamEvent, s: RegionStream, cells: &mut [f64; CELLS]) -> Step
+fn between_piles(
+    event: StreamEvent,
+    s: RegionStream,
+    cells: &mut [f64; CELLS],
+) -> Result<Step, RefusedStep>
     requires { s.phase ≡ Loci }
     ensures { (scoring : Scoring) (pile : List ℕ) (kernel : List Float)
         → Stepped scoring event s pile pile kernel kernel cells.old cells.new result }
 {
     match event {
-        StreamEvent::Locus { position } => Step::Next(opened(s, s.profile, position)),
-        StreamEvent::Observation { word: _ } => Step::Refused(Refusal::Word, s.index, s),
+        StreamEvent::Locus { position } => Ok(Step::Next(opened(s, s.profile, position))),
+        StreamEvent::Observation { word: _ } => refused(s, Refusal::Word, s.index),
         StreamEvent::Pop { value } => pop(s, value, cells),
-        StreamEvent::Setting { field: _, value: _ } => Step::Refused(Refusal::Word, s.index, s),
-        StreamEvent::Remainder => Step::Refused(Refusal::Word, s.index, s),
-        StreamEvent::End => Step::Next(s),
+        StreamEvent::Setting { field: _, value: _ } => refused(s, Refusal::Word, s.index),
+        StreamEvent::Remainder => refused(s, Refusal::Word, s.index),
+        StreamEvent::End => Ok(Step::Next(s)),
     }
 }
 
 // One pop, its word's value being 0 unforced and 1 forced.
-fn pop(s: RegionStream, value: u32, cells: &mut [f64; CELLS]) -> Step
+fn pop(s: RegionStream, value: u32, cells: &mut [f64; CELLS]) -> Result<Step, RefusedStep>
     requires { s.phase ≡ Loci }
     ensures { (scoring : Scoring) (pile : List ℕ) (kernel : List Float)
         → Stepped scoring (Pop value) s pile pile kernel kernel cells.old cells.new result }
 {
     if value > 1 {
-        return Step::Refused(Refusal::Word, s.index, s);
+        return refused(s, Refusal::Word, s.index);
     }
-    let settings = s.settings;
-    let p = s.profile;
-    let popped = profile_pop::try_pop_next_ready_region(
-        p,
+    match profile_pop::try_pop_next_ready_region(
+        s.profile,
         cells,
-        settings.assembly_region_extension,
-        settings.min_region_size,
-        settings.max_region_size,
+        s.settings.assembly_region_extension,
+        s.settings.min_region_size,
+        s.settings.max_region_size,
         value == 1,
-    );
-    match popped {
-        Ok(Popped::Ready(region, q)) => Step::Line(region, with_record(s, q)),
-        Ok(Popped::Held(q)) => Step::Next(advanced(s, q)),
-        Ok(Popped::Empty(q)) => Step::Next(advanced(s, q)),
-        Err(refused) => Step::Refused(refused.refusal, s.index, s),
+    ) {
+        Ok(Popped::Ready(region, q)) => {
+            let left = RegionStream { profile: q, ..s };
+            Ok(Step::Line(region, left))
+        }
+        Ok(Popped::Held(q)) => Ok(Step::Next(advanced(s, q))),
+        Ok(Popped::Empty(q)) => Ok(Step::Next(advanced(s, q))),
+        Err(call) => refused(s, call.refusal, s.index),
     }
-}
-
-// The stream at the same word with another record.
-fn with_record(s: RegionStream, p: BandPassActivityProfile) -> RegionStream
-    ensures { result ≡ stream_of s.settings p s.phase s.index }
-{
-    let mut t = s;
-    t.profile = p;
-    t
 }
 
 // ---- within a pile
@@ -232,92 +222,68 @@ fn with_record(s: RegionStream, p: BandPassActivityProfile) -> RegionStream
 fn within_pile(
     event: StreamEvent,
     s: RegionStream,
-    locus: u32,
-    locus_index: u64,
-    depth: usize,
-    pile: &mut [u32; PILE],
-    kernel: &[f64; KERNEL],
-    cells: &mut [f64; CELLS],
-    table: &[f64; TABLE],
-    priors: &[f64; PRIORS],
-) -> Step
-    requires { s.phase ≡ Pile locus locus_index depth }
-    ensures { Stepped (table_score table.now priors.now) event s
-        pile.old pile.new kernel.now kernel.now cells.old cells.new result }
+    at: OpenPile,
+    memory: &mut StreamMemory,
+    tables: &StreamTables,
+) -> Result<Step, RefusedStep>
+    requires { s.phase ≡ Pile at }
+    ensures { Stepped (table_score tables.now.contributions tables.now.priors) event s
+        memory.old.pile memory.new.pile memory.old.kernel memory.new.kernel
+        memory.old.cells memory.new.cells result }
 {
     match event {
-        StreamEvent::Observation { word } => observe(s, locus, locus_index, depth, word, pile),
-        StreamEvent::Setting { field: _, value: _ } => Step::Refused(Refusal::Word, s.index, s),
+        StreamEvent::Observation { word } => observe(s, at, word, &mut memory.pile),
+        StreamEvent::Setting { field: _, value: _ } => refused(s, Refusal::Word, s.index),
         StreamEvent::Locus { position: _ }
         | StreamEvent::Pop { value: _ }
         | StreamEvent::Remainder
-        | StreamEvent::End => end_pile(
-            s,
-            locus,
-            locus_index,
-            depth,
-            pile,
-            kernel,
-            cells,
-            table,
-            priors,
-        ),
+        | StreamEvent::End => end_pile(s, at, memory, tables),
     }
 }
 
 // One observation more.
 fn observe(
     s: RegionStream,
-    locus: u32,
-    locus_index: u64,
-    depth: usize,
+    at: OpenPile,
     word: u32,
     pile: &mut [u32; PILE],
-) -> Step
-    requires { s.phase ≡ Pile locus locus_index depth }
+) -> Result<Step, RefusedStep>
+    requires { s.phase ≡ Pile at }
     ensures { (scoring : Scoring) (kernel cells : List Float)
         → Stepped scoring (Observation word) s pile.old pile.new kernel kernel cells cells result }
 {
-    let kept = observation_runs::keep(pile, depth, word);
-    let phase = Phase::Pile {
-        locus,
-        locus_index,
-        depth: kept,
-    };
-    let settings = s.settings;
-    let profile = s.profile;
-    let index = std::num::wrapping_add_u64(s.index, 1);
-    Step::Next(RegionStream {
-        settings,
-        profile,
-        phase,
-        index,
-    })
+    let depth = observation_runs::keep(pile, at.depth, word);
+    Ok(Step::Next(RegionStream {
+        phase: Phase::Pile(OpenPile { depth, ..at }),
+        index: s.index.wrapping_add(1),
+        ..s
+    }))
 }
 
 // Scores the pile and adds its locus. A refusal names its locus word.
 fn end_pile(
     s: RegionStream,
-    locus: u32,
-    locus_index: u64,
-    depth: usize,
-    pile: &[u32; PILE],
-    kernel: &[f64; KERNEL],
-    cells: &mut [f64; CELLS],
-    table: &[f64; TABLE],
-    priors: &[f64; PRIORS],
-) -> Step
-    requires { s.phase ≡ Pile locus locus_index depth }
-    ensures { EndsPile (table_score table.now priors.now) s locus locus_index depth
-        pile.now kernel.now cells.old cells.new result }
+    at: OpenPile,
+    memory: &mut StreamMemory,
+    tables: &StreamTables,
+) -> Result<Step, RefusedStep>
+    requires { s.phase ≡ Pile at }
+    ensures ends { EndsPile (table_score tables.now.contributions tables.now.priors) s at
+        memory.old.pile memory.old.kernel memory.old.cells memory.new.cells result }
+    ensures pile_left { memory.new.pile ≡ memory.old.pile }
+    ensures kernel_left { memory.new.kernel ≡ memory.old.kernel }
 {
     let p = s.profile;
-    let words = front(pile, depth);
-    let part = band_pass_kernel::kernel_in(kernel, p.filter_size);
-    let added = stream_profile::add_pile(p, locus, words, part, cells, table, priors);
-    match added {
-        Ok(q) => Step::Again(closed(s, q)),
-        Err(why) => Step::Refused(why, locus_index, s),
+    let words = &memory.pile[..at.depth.min(PILE)];
+    let kernel = band_pass_kernel::kernel_in(&memory.kernel, p.filter_size);
+    let tables = ScoringTables {
+        contributions: &tables.contributions,
+        priors: &tables.priors,
+    };
+    let cells = &mut memory.cells;
+    match stream_profile::add_pile(p, at.locus, words, kernel, cells, tables) {
+        Ok(q) => Ok(Step::Again(closed(s, q))),
+        Err(why) => refused(s, why, at.locus_index),
     }
 }
 
@@ -325,22 +291,9 @@ fn end_pile(
 fn closed(s: RegionStream, p: BandPassActivityProfile) -> RegionStream
     ensures { result ≡ stream_of s.settings p Loci s.index }
 {
-    let settings = s.settings;
-    let phase = Phase::Loci;
     RegionStream {
-        settings,
         profile: p,
-        phase,
-        index: s.index,
+        phase: Phase::Loci,
+        ..s
     }
-}
-
-// The first n words, or all where there are fewer.
-fn front<'a>(words: &'a [u32], n: usize) -> &'a [u32]
-    ensures { result.now ≡ take n words.now }
-{
-    if n <= words.len() {
-        return &words[..n];
-    }
-    words
 }

@@ -6,6 +6,3 @@ returns-in-Settings c = c.before_loci.ensures _ _ _
 
 pub returns-in-Loci : goal.returns-in-Loci
 returns-in-Loci c = c.between_piles.ensures _ _ _
-
-pub returns-in-Pile : goal.returns-in-Pile
-returns-in-Pile c = c.within_pile.ensures

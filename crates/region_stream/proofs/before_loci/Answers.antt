@@ -14,7 +14,7 @@ pub returns-in-Observation : goal.returns-in-Observation
 unfolding before_loci
 returns-in-Observation c = λ scoring pile cells.
     let a = c.args in
-    rw c.in-Observation.is (refuses scoring a.s pile a.kernel.now cells _ Word _ (at-settings scoring a.s pile a.kernel.now cells _ c.requires))
+    rw (c.in-Observation.is, c.refused.ensures) (refuses scoring a.s pile a.kernel.now cells _ Word _ (at-settings scoring a.s pile a.kernel.now cells _ c.requires))
 
 pub returns-in-Pop : goal.returns-in-Pop
 returns-in-Pop c = λ scoring pile cells. rw c.in-Pop.is (c.pop_unmade.ensures scoring pile _ cells)
@@ -26,7 +26,7 @@ pub returns-in-Remainder : goal.returns-in-Remainder
 unfolding before_loci
 returns-in-Remainder c = λ scoring pile cells.
     let a = c.args in
-    rw c.in-Remainder.is (refuses scoring a.s pile a.kernel.now cells Remainder Word _ (at-settings scoring a.s pile a.kernel.now cells Remainder c.requires))
+    rw (c.in-Remainder.is, c.refused-in-Remainder.ensures) (refuses scoring a.s pile a.kernel.now cells Remainder Word _ (at-settings scoring a.s pile a.kernel.now cells Remainder c.requires))
 
 pub returns-in-End : goal.returns-in-End
 unfolding before_loci pile_after kernel_after

@@ -16,7 +16,7 @@ pub returns-in-Observation : goal.returns-in-Observation
 unfolding between_piles
 returns-in-Observation c = λ scoring pile kernel.
     let a = c.args in
-    rw c.in-Observation.is (refuses scoring a.s pile kernel a.cells.now _ Word _ (at-loci scoring a.s pile kernel a.cells.now _ c.requires))
+    rw (c.in-Observation.is, c.refused.ensures) (refuses scoring a.s pile kernel a.cells.now _ Word _ (at-loci scoring a.s pile kernel a.cells.now _ c.requires))
 
 pub returns-in-Pop : goal.returns-in-Pop
 returns-in-Pop c = λ scoring pile kernel. rw c.in-Pop.is (c.pop.ensures scoring pile kernel)
@@ -25,13 +25,13 @@ pub returns-in-Setting : goal.returns-in-Setting
 unfolding between_piles
 returns-in-Setting c = λ scoring pile kernel.
     let a = c.args in
-    rw c.in-Setting.is (refuses scoring a.s pile kernel a.cells.now _ Word _ (at-loci scoring a.s pile kernel a.cells.now _ c.requires))
+    rw (c.in-Setting.is, c.refused-in-Setting.ensures) (refuses scoring a.s pile kernel a.cells.now _ Word _ (at-loci scoring a.s pile kernel a.cells.now _ c.requires))
 
 pub returns-in-Remainder : goal.returns-in-Remainder
 unfolding between_piles
 returns-in-Remainder c = λ scoring pile kernel.
     let a = c.args in
-    rw c.in-Remainder.is (refuses scoring a.s pile kernel a.cells.now Remainder Word _ (at-loci scoring a.s pile kernel a.cells.now Remainder c.requires))
+    rw (c.in-Remainder.is, c.refused-in-Remainder.ensures) (refuses scoring a.s pile kernel a.cells.now Remainder Word _ (at-loci scoring a.s pile kernel a.cells.now Remainder c.requires))
 
 pub returns-in-End : goal.returns-in-End
 unfolding between_piles pile_after kernel_after

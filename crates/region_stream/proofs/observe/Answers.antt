@@ -8,5 +8,5 @@ pub returns : goal.returns
 returns c = λ scoring kernel cells.
     let a = c.args in
     let long : length a.pile.now ≡ PILE = search rules in
-    simp (c.wrapping_add_u64-index.ensures.value, c.keep-kept.ensures.value, c.keep-kept.ensures.pile_after)
-    (observed_next scoring a.s a.pile.now kernel cells a.locus a.locus_index a.depth c.requires a.word long)
+    simp (c.keep-depth.ensures.value, c.keep-depth.ensures.pile_after)
+    (observed_next scoring a.s a.pile.now kernel cells a.at c.requires a.word long)

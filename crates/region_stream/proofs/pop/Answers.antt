@@ -11,33 +11,34 @@ pub returns-then-value-gt1 : goal.returns-then-value-gt1
 unfolding between_piles
 returns-then-value-gt1 c = λ scoring pile kernel.
     let a = c.args in
-    refuses scoring a.s pile kernel a.cells.now (Pop a.value) Word _
-    (at-loci scoring a.s pile kernel a.cells.now (Pop a.value) c.requires ∙ rw (lt-ltb 1 a.value (omega arith)))
+    simp c.refused.ensures
+    (refuses scoring a.s pile kernel a.cells.now (Pop a.value) Word _
+    (at-loci scoring a.s pile kernel a.cells.now (Pop a.value) c.requires ∙ rw (lt-ltb 1 a.value (omega arith))))
 
-pub returns-in-Ready : goal.returns-in-Ready
-returns-in-Ready c = λ scoring pile kernel.
+pub returns-in-Ok-Ready : goal.returns-in-Ok-Ready
+returns-in-Ok-Ready c = λ scoring pile kernel.
     let a = c.args in
-    let e = c.try_pop_next_ready_region-popped.ensures in
-    let answer = sym e.result_value ∙ ap pop_answer_of c.in-Ready.is in
-    simp (c.with_record.ensures, e.cells_after) (pop_line scoring a.s pile kernel a.cells.now c.requires a.value (le-ltb 1 a.value (omega arith)) _ _ answer (omega (arith, c.well_formed)))
+    let e = c.try_pop_next_ready_region.ensures in
+    let answer = sym (rw c.in-Ok-Ready.field-0-is at c.in-Ok-Ready.ensures.result_value) in
+    simp e.cells_after (pop_line scoring a.s pile kernel a.cells.now c.requires a.value (le-ltb 1 a.value (omega arith)) _ _ answer (omega (arith, c.well_formed)))
 
-pub returns-in-Held : goal.returns-in-Held
-returns-in-Held c = λ scoring pile kernel.
+pub returns-in-Ok-Held : goal.returns-in-Ok-Held
+returns-in-Ok-Held c = λ scoring pile kernel.
     let a = c.args in
-    let e = c.try_pop_next_ready_region-popped.ensures in
-    let answer = sym e.result_value ∙ ap pop_answer_of c.in-Held.is in
+    let e = c.try_pop_next_ready_region.ensures in
+    let answer = sym (rw c.in-Ok-Held.field-0-is at c.in-Ok-Held.ensures.result_value) in
     simp (c.advanced.ensures, e.cells_after) (pop_held scoring a.s pile kernel a.cells.now c.requires a.value (le-ltb 1 a.value (omega arith)) _ answer)
 
-pub returns-in-Empty : goal.returns-in-Empty
-returns-in-Empty c = λ scoring pile kernel.
+pub returns-in-Ok-Empty : goal.returns-in-Ok-Empty
+returns-in-Ok-Empty c = λ scoring pile kernel.
     let a = c.args in
-    let e = c.try_pop_next_ready_region-popped.ensures in
-    let answer = sym e.result_value ∙ ap pop_answer_of c.in-Empty.is in
-    simp (c.advanced-in-Empty.ensures, e.cells_after) (pop_empty scoring a.s pile kernel a.cells.now c.requires a.value (le-ltb 1 a.value (omega arith)) _ answer)
+    let e = c.try_pop_next_ready_region.ensures in
+    let answer = sym (rw c.in-Ok-Empty.field-0-is at c.in-Ok-Empty.ensures.result_value) in
+    simp (c.advanced-in-Ok-Empty.ensures, e.cells_after) (pop_empty scoring a.s pile kernel a.cells.now c.requires a.value (le-ltb 1 a.value (omega arith)) _ answer)
 
-pub returns-in-Refused : goal.returns-in-Refused
-returns-in-Refused c = λ scoring pile kernel.
+pub returns-in-Err : goal.returns-in-Err
+returns-in-Err c = λ scoring pile kernel.
     let a = c.args in
-    let e = c.try_pop_next_ready_region-popped.ensures in
-    let answer = sym e.result_value ∙ ap pop_answer_of c.in-Refused.is in
-    simp e.cells_after (pop_refused scoring a.s pile kernel a.cells.now c.requires a.value (le-ltb 1 a.value (omega arith)) _ _ answer)
+    let e = c.try_pop_next_ready_region.ensures in
+    let answer = sym e.result_value ∙ ap pop_answer_of c.in-Err.is in
+    simp (c.refused-in-Err.ensures, e.cells_after) (pop_refused scoring a.s pile kernel a.cells.now c.requires a.value (le-ltb 1 a.value (omega arith)) _ _ answer)

@@ -10,14 +10,16 @@ pub returns-then-value-gt1 : goal.returns-then-value-gt1
 unfolding before_loci
 returns-then-value-gt1 c = λ scoring pile kernel cells.
     let a = c.args in
-    refuses scoring a.s pile kernel cells (Pop a.value) Word _ (at-settings scoring a.s pile kernel cells (Pop a.value) c.requires ∙ rw (lt-ltb 1 a.value (omega arith)))
+    simp c.refused.ensures
+    (refuses scoring a.s pile kernel cells (Pop a.value) Word _ (at-settings scoring a.s pile kernel cells (Pop a.value) c.requires ∙ rw (lt-ltb 1 a.value (omega arith))))
 
 pub returns-then-settings : goal.returns-then-settings
 unfolding before_loci
 returns-then-settings c = λ scoring pile kernel cells.
     let a = c.args in
-    refuses scoring a.s pile kernel cells (Pop a.value) ZeroSize _
-    (at-settings scoring a.s pile kernel cells (Pop a.value) c.requires ∙ rw (le-ltb 1 a.value (omega arith), c.if-settings.true))
+    simp c.refused-then-settings.ensures
+    (refuses scoring a.s pile kernel cells (Pop a.value) ZeroSize _
+    (at-settings scoring a.s pile kernel cells (Pop a.value) c.requires ∙ rw (le-ltb 1 a.value (omega arith), c.if-settings.true)))
 
 pub returns : goal.returns
 returns c = λ scoring pile kernel cells.

@@ -1,5 +1,5 @@
 -- `within_pile` meets its contract: all events but an observation and a setting end the pile.
-use Rattle.std.proofs.Common.{◌≡◌, ◌⊎◌, ap, ℕ, List, [], ◌∷◌, sym, refl, ◌∙◌, inl, inr, arith}
+use Rattle.std.proofs.Common.{◌≡◌, ◌⊎◌, ap, ℕ, List, [], ◌∷◌, sym, refl, ◌∙◌, inl, inr, arith, Result}
 use denote.Enum.Declared.{tag_of}
 use types.Run.{OneOf}
 use lib.Ieee.{Float}
@@ -10,6 +10,8 @@ use Rattle.pileup_words.specs.contracts.StreamEvent.{the_type}
 use Rattle.region_program.specs.declared.Phase.TheVariants.{Pile}
 use Rattle.region_program.specs.declared.RegionStream.{RegionStream}
 use Rattle.region_program.specs.declared.Step.{Step}
+use Rattle.region_program.specs.declared.OpenPile.{OpenPile}
+use Rattle.region_program.specs.declared.RefusedStep.{RefusedStep}
 use Rattle.region_program.specs.Program.{Scoring, within_pile}
 use Rattle.region_program.specs.Stream.{EndsPile, Stepped, kernel_after, pile_after}
 use Rattle.region_program.specs.Tables.{table_score}
@@ -31,13 +33,13 @@ keyed e (inr (inr (inl h))) = inr (inr (inl (ap (tag_of the_type) h)))
 keyed e (inr (inr (inr h))) = inr (inr (inr (ap (tag_of the_type) h)))
 
 -- the end of a pile, as the step of each event that ends it
-module _ (scoring : Scoring) (s : RegionStream) (l i d : ℕ) (p : s.phase ≡ Pile l i d) (pile : List ℕ) (kernel cells cells' : List Float) (r : Step) (ended : EndsPile scoring s l i d pile kernel cells cells' r) where
+module _ (scoring : Scoring) (s : RegionStream) (o : OpenPile) (p : s.phase ≡ Pile o) (pile : List ℕ) (kernel cells cells' : List Float) (r : Result Step RefusedStep) (ended : EndsPile scoring s o pile kernel cells cells' r) where
   stepped : (e : StreamEvent) → OneOf (0 ∷ 2 ∷ 4 ∷ 5 ∷ []) (tag_of the_type e) → Stepped scoring e s pile pile kernel kernel cells cells' r
   unfolding within_pile pile_after kernel_after
-  stepped (Locus q) h = record { answer = ended.answer ∙ sym (in_pile_lem scoring s pile kernel cells (Locus q) l i d p); pile_left = refl; kernel_left = rw p; ends = ended.ends }
-  stepped (Pop value) h = record { answer = ended.answer ∙ sym (in_pile_lem scoring s pile kernel cells (Pop value) l i d p); pile_left = refl; kernel_left = refl; ends = ended.ends }
-  stepped Remainder h = record { answer = ended.answer ∙ sym (in_pile_lem scoring s pile kernel cells Remainder l i d p); pile_left = refl; kernel_left = refl; ends = ended.ends }
-  stepped End h = record { answer = ended.answer ∙ sym (in_pile_lem scoring s pile kernel cells End l i d p); pile_left = refl; kernel_left = refl; ends = ended.ends }
+  stepped (Locus q) h = record { answer = ended.answer ∙ sym (in_pile_lem scoring s pile kernel cells (Locus q) o p); pile_left = refl; kernel_left = rw p; ends = ended.ends }
+  stepped (Pop value) h = record { answer = ended.answer ∙ sym (in_pile_lem scoring s pile kernel cells (Pop value) o p); pile_left = refl; kernel_left = refl; ends = ended.ends }
+  stepped Remainder h = record { answer = ended.answer ∙ sym (in_pile_lem scoring s pile kernel cells Remainder o p); pile_left = refl; kernel_left = refl; ends = ended.ends }
+  stepped End h = record { answer = ended.answer ∙ sym (in_pile_lem scoring s pile kernel cells End o p); pile_left = refl; kernel_left = refl; ends = ended.ends }
   stepped (Observation w) h = absurd ((other 1 h).0 refl)
   stepped (Setting field value) h = absurd ((other 3 h).1 refl)
 
@@ -48,12 +50,13 @@ pub returns-in-Setting : goal.returns-in-Setting
 unfolding within_pile
 returns-in-Setting c =
     let a = c.args in
-    let score = table_score a.table.now a.priors.now in
-    rw c.in-Setting.is
-    (refuses score a.s a.pile.now a.kernel.now a.cells.now _ Word _
-    (in_pile_lem score a.s a.pile.now a.kernel.now a.cells.now _ a.locus a.locus_index a.depth c.requires))
+    let m = a.memory.now in
+    let score = table_score a.tables.now.contributions a.tables.now.priors in
+    rw (c.in-Setting.is, c.refused.ensures)
+    (refuses score a.s m.pile m.kernel m.cells _ Word _ (in_pile_lem score a.s m.pile m.kernel m.cells _ a.at c.requires))
 
 pub returns-in-Locus : goal.returns-in-Locus
 returns-in-Locus c =
     let a = c.args in
-    stepped _ a.s a.locus a.locus_index a.depth c.requires _ _ _ _ _ c.end_pile.ensures a.event (keyed a.event c.in-Locus.is)
+    let e = c.end_pile.ensures in
+    rw (e.pile_left, e.kernel_left) (stepped _ a.s a.at c.requires _ _ _ _ _ e.ends a.event (keyed a.event c.in-Locus.is))

@@ -1,5 +1,0 @@
--- `opened` meets its contract: each field is written out.
-use Rattle.region_stream.proofs.opened.Goals as goal
-
-pub returns : goal.returns
-returns c = simp c.wrapping_add_u64-index.ensures.value
