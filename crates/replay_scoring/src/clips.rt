@@ -1,5 +1,6 @@
 // Soft-clip counts.
 use answer_list::{Compared, length_at, number_at, word_at};
+use std::num::wrapping_add_usize;
 
 // k, cigar[k], n, qualities[n]; the refusal's number or 0, and where 0 the count.
 pub(crate) fn clip_count(words: &[u64]) -> bool {
@@ -8,31 +9,24 @@ pub(crate) fn clip_count(words: &[u64]) -> bool {
     let n = length_at(words, 1 + k);
     let qualities = bytes_from(words, 2 + k);
     let found = hq_soft_clip::count_high_quality_soft_clip_bases_rcm(&cigar[..k], &qualities[..n]);
-    let c = Compared::from(2 + k + n);
+    let c = Compared::from(words, 2 + k + n);
     match found {
-        Ok(count) => c.word(words, 0).word(words, count).whole(words),
-        Err(why) => c.word(words, why.number() as u64).whole(words),
+        Ok(count) => c.word(0).word(count).whole(),
+        Err(why) => c.word(u64::from(why.number())).whole(),
     }
 }
 
 // The 32-bit numbers from word `at` on.
 pub(crate) fn numbers_from(words: &[u64], at: usize) -> [u32; 1024] {
-    let mut into = [0u32; 1024];
-    let mut i = 0usize;
-    while i < 1024 {
-        into[i] = number_at(words, std::num::wrapping_add_usize(at, i));
-        i += 1;
-    }
-    into
+    std::array::from_fn(|i| number_at(words, wrapping_add_usize(at, i)))
 }
 
 // The bytes from word `at` on.
 fn bytes_from(words: &[u64], at: usize) -> [u8; 1024] {
-    let mut into = [0u8; 1024];
-    let mut i = 0usize;
-    while i < 1024 {
-        into[i] = (word_at(words, std::num::wrapping_add_usize(at, i)) % 256) as u8;
-        i += 1;
-    }
-    into
+    std::array::from_fn(|i| byte_at(words, wrapping_add_usize(at, i)))
+}
+
+// The low byte of word i.
+pub(crate) fn byte_at(words: &[u64], i: usize) -> u8 {
+    (word_at(words, i) % 256) as u8
 }

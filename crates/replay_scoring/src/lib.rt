@@ -8,16 +8,21 @@ mod sums;
 
 ghost use Rattle.std.specs.Prelude.{◌≡◌, ◌≤◌, true, ◌⊎◌};
 
+use answer_list::Function;
+
 // Whether the library's results are those of the answer; true of these functions alone.
 pub fn replay(function: u64, words: &[u64]) -> bool
     ensures { result ≡ true → ((13 ≤ function) × (function ≤ 16)) ⊎ (function ≡ 20) }
 {
-    match function {
-        13 => clips::clip_count(words),
-        14 => scores::score(words),
-        15 => sums::pair_sum(words),
-        16 => sums::log10_sum(words),
-        20 => scores::score_set(words),
+    let Ok(asked) = Function::try_from(function) else {
+        return false;
+    };
+    match asked {
+        Function::ClipCount => clips::clip_count(words),
+        Function::Score => scores::score(words),
+        Function::PairSum => sums::pair_sum(words),
+        Function::Log10Sum => sums::log10_sum(words),
+        Function::SetScore => scores::score_set(words),
         _ => false,
     }
 }

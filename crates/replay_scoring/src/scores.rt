@@ -1,11 +1,12 @@
 // Scores of piles, and of sets of them.
 ghost use Rattle.std.specs.Prelude.{◌≤◌};
 
-use crate::clips::numbers_from;
+use crate::clips::{byte_at, numbers_from};
 use activity_profile::{ActivityEvidence, ActivityProfileState};
 use answer_list::{Compared, double_at, length_at, number_at, word_at};
 use genome::{GenomePosition, Ploidy, Refusal};
 use genotype_likelihoods::HaplotypeCallerActivityScoringParams;
+use std::num::wrapping_add_usize;
 
 // contig, position, min base quality, ploidy, heterozygosity, deviation, deletion quality, alt multiplier, flow, depth,
 // k, words[k]; the refusal's number or 0, and where 0 probability, original probability and evidence. Word i of the pile
@@ -13,18 +14,14 @@ use genotype_likelihoods::HaplotypeCallerActivityScoringParams;
 pub(crate) fn score(words: &[u64]) -> bool {
     let n = depth_at(words, 9);
     let k = length_at(words, 10);
-    let pile = run_from(words, 11, k, n);
-    score_in(words, &pile[..n], 11 + k)
-}
-
-fn score_in(words: &[u64], pile: &[u32], results: usize) -> bool {
+    let run = run_from(words, 11, k, n);
     let scored = activity_scoring::haplotype_caller_activity_profile_state_single_sample(
         number_at(words, 0),
         GenomePosition(number_at(words, 1)),
-        pile,
+        &run[..n],
         params_at(words),
     );
-    scored_at(words, results, scored)
+    is_as_scored(Compared::from(words, 11 + k), scored)
 }
 
 // As a score: contig, position, the settings, how many words the run has, k, words[k]; then m, lengths[m]; and its results.
@@ -34,48 +31,40 @@ pub(crate) fn score_set(words: &[u64]) -> bool {
     let m = length_at(words, 11 + k);
     let run = run_from(words, 11, k, n);
     let lengths = numbers_from(words, 12 + k);
-    score_set_in(words, &run[..n], &lengths[..m], 12 + k + m)
-}
-
-fn score_set_in(words: &[u64], run: &[u32], lengths: &[u32], results: usize) -> bool {
     let scored = multi_sample_scoring::haplotype_caller_activity_profile_state_multi_sample(
         number_at(words, 0),
         GenomePosition(number_at(words, 1)),
-        run,
-        lengths,
+        &run[..n],
+        &lengths[..m],
         params_at(words),
     );
-    scored_at(words, results, scored)
+    is_as_scored(Compared::from(words, 12 + k + m), scored)
 }
 
-// Whether the results from a word on are those of a score.
-fn scored_at(words: &[u64], results: usize, scored: Result<ActivityProfileState, Refusal>) -> bool {
-    let c = Compared::from(results);
+// Whether the results are those of a score, whose state has the contig and the position that the call was given.
+fn is_as_scored(c: Compared, scored: Result<ActivityProfileState, Refusal>) -> bool {
     match scored {
-        Ok(s) => state(words, c.word(words, 0), s).whole(words),
-        Err(why) => c.word(words, why.number() as u64).whole(words),
+        Ok(s) => {
+            let words = c.words;
+            let given = (s.contig == number_at(words, 0)) & (s.pos.0 == number_at(words, 1));
+            Compared {
+                same: c.same & given,
+                ..c
+            }
+            .word(0)
+            .double(s.active_prob)
+            .double(s.original_active_prob)
+            .word(evidence(s.evidence))
+            .whole()
+        }
+        Err(why) => c.word(u64::from(why.number())).whole(),
     }
-}
-
-// The state, which has the contig and the position that the call was given.
-fn state(words: &[u64], c: Compared, s: ActivityProfileState) -> Compared {
-    let p = s.pos;
-    let e = s.evidence;
-    let given = (s.contig == number_at(words, 0)) & (p.0 == number_at(words, 1));
-    let found = Compared {
-        at: c.at,
-        same: c.same & given,
-    };
-    found
-        .double(words, s.active_prob)
-        .double(words, s.original_active_prob)
-        .word(words, evidence(e))
 }
 
 fn evidence(e: ActivityEvidence) -> u64 {
     match e {
         ActivityEvidence::Plain => 0,
-        ActivityEvidence::HighQualitySoftClips { clip_bases } => clip_bases as u64 + 1,
+        ActivityEvidence::HighQualitySoftClips { clip_bases } => u64::from(clip_bases) + 1,
     }
 }
 
@@ -92,10 +81,6 @@ fn params_at(words: &[u64]) -> HaplotypeCallerActivityScoringParams {
     }
 }
 
-fn byte_at(words: &[u64], i: usize) -> u8 {
-    (word_at(words, i) % 256) as u8
-}
-
 // Room for a run of words: three times the deepest pile, and more.
 const RUN: usize = 65536;
 
@@ -103,11 +88,7 @@ const RUN: usize = 65536;
 fn depth_at(words: &[u64], i: usize) -> usize
     ensures { result ≤ 65536 }
 {
-    let n = word_at(words, i);
-    if n <= RUN as u64 {
-        return n as usize;
-    }
-    RUN
+    word_at(words, i).min(RUN as u64) as usize
 }
 
 // The first n words of a run that goes round the k words from word `at` on.
@@ -115,18 +96,16 @@ fn run_from(words: &[u64], at: usize, k: usize, n: usize) -> [u32; RUN]
     requires { n ≤ 65536 }
 {
     let mut run = [0u32; RUN];
-    let mut i = 0;
     let mut j = 0;
-    while i < n {
-        run[i] = number_at(words, std::num::wrapping_add_usize(at, j));
+    for w in run[..n].iter_mut() {
+        *w = number_at(words, wrapping_add_usize(at, j));
         j = next(j, k);
-        i += 1;
     }
     run
 }
 
 // The place after j in a round of k.
 fn next(j: usize, k: usize) -> usize {
-    let after = std::num::wrapping_add_usize(j, 1);
+    let after = wrapping_add_usize(j, 1);
     if after < k { after } else { 0 }
 }

@@ -1,9 +1,0 @@
--- `numbers_from` is safe: each index is below 1,024.
-use Rattle.std.proofs.Common.{◌-◌, ◌≤◌}
-use Rattle.replay_scoring.proofs.clips.numbers_from.Given as goal
-
-abbrev pub invariant-loop-i : goal.invariant-loop-i
-invariant-loop-i l = l.i ≤ 1024
-
-abbrev pub decreases-loop-i : goal.decreases-loop-i
-decreases-loop-i l = 1024 - l.i
