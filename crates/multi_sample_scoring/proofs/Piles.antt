@@ -4,6 +4,7 @@ use Rattle.std.specs.Prelude.{◌≡◌, Bool, true, false, ℕ, ◌+◌, ◌≤
 use Rattle.std.specs.List.{fold}
 use Rattle.std.proofs.Math.Path.{refl, ap}
 use Rattle.std.proofs.Common.{sym, ◌∙◌, add-zero, zero-add, arith, eqb-true, length-drop, take-append-drop, length-take-le}
+use Rattle.std.proofs.lemmas.List.Sums.{fold-append}
 use Rattle.std.proofs.Math.Bool.{cond}
 use mathlib.Core.List.{List, [], ◌∷◌, ◌++◌, map, flatten, append-nil, nil≢cons, head-eq_of_cons-eq}
 use Rattle.std.specs.Float.Ieee.{lt, of_bits}
@@ -46,10 +47,6 @@ pub left_are_the_run : (words lengths : List ℕ) → total lengths ≡ length w
 left_are_the_run words lengths e = flatten_left (piles words lengths) ∙ piles_are_the_run words lengths e
 
 -- ---- the mean
-
-fold-append : {S A : Type 0} (f : S → A → S) (s : S) (xs ys : List A) → fold f s (xs ++ ys) ≡ fold f (fold f s xs) ys
-fold-append f s [] ys = refl
-fold-append f s (x ∷ xs) ys = fold-append f (f s x) xs ys
 
 fold-flatten : {S A : Type 0} (f : S → A → S) (s : S) (ls : List (List A)) → fold (λ (r : S) (l : List A). fold f r l) s ls ≡ fold f s (flatten ls)
 unfolding flatten

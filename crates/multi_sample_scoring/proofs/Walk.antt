@@ -1,29 +1,30 @@
 -- One turn and the end of the loops over a set's lengths and piles, and that passing over the empty piles on the way is leaving them out before.
 -- Assumes nothing.
 use mathlib.Core.Path.{◌≡◌, refl}
-use Rattle.std.specs.List.{fold}
-use mathlib.Core.Bool.{Bool, true, false, cond}
+use Rattle.std.specs.List.{fold, count_by}
+use mathlib.Core.Bool.{Bool, true, false, cond, not}
 use mathlib.Core.List.{List, [], ◌∷◌, map}
 use Prim.Native.Nat.{ℕ, ◌+◌, ◌≤◌, ◌<◌}
 use native.Mathlib.Numerals.{add-one}
 use native.Mathlib.Omega.{arith}
 use lib.Dec.{eqb}
 use lib.ListN.{length, get_or, take, drop, drop_of_length-le}
-use lib.Seq.{drop-cons, drop-drop}
+use lib.Seq.{drop-cons}
 use lib.Ieee.{Float}
+use Rattle.lists.specs.Folds.{fold-same}
 use Rattle.lists.specs.Without.{without}
 use Rattle.genotype_likelihoods.specs.declared.HaplotypeCallerActivityScoringParams.{HaplotypeCallerActivityScoringParams}
 use Rattle.activity_scoring.specs.Tables.{from_rounded_by, rounded_by}
 use Rattle.multi_sample_scoring.specs.Sets.{piles, total, is_empty, with_sample}
-use Rattle.multi_sample_scoring.specs.Passed.{with_length, with_pile}
+use Rattle.multi_sample_scoring.specs.Passed.{with_length, count_left, with_pile}
 
--- a length counts once at most
-pub one_more : (k n : ℕ) → with_length k n ≤ k + 1
-one_more k n = go (eqb n 0)
+-- the lengths that are not 0
+pub counted_left : (lengths : List ℕ) → count_by (λ n. not (eqb n 0)) lengths ≡ count_left lengths
+counted_left lengths = fold-same (λ k n. k + cond (not (eqb n 0)) 1 0) with_length 0 lengths (λ k n. go k (eqb n 0))
   where
-    go : (b : Bool) → cond b k (k + 1) ≤ k + 1
-    go true = omega arith
-    go false = omega arith
+    go : (k : ℕ) (b : Bool) → k + cond (not b) 1 0 ≡ cond b k (k + 1)
+    go k true = omega arith
+    go k false = refl
 
 pub total-turn : (lengths : List ℕ) (i : ℕ) → i < length lengths → total (drop i lengths) ≡ get_or lengths i 0 + total (drop (i + 1) lengths)
 unfolding total
@@ -34,10 +35,10 @@ unfolding total
 total_end lengths i h = rw (drop_of_length-le lengths {i = i} h)
 
 -- what is left of the run begins with the pile that is next
-pub piles-turn : {S : Type 0} (f : S → List ℕ → S) (q : S) (words lengths : List ℕ) (at i : ℕ) → i < length lengths
-    → fold f (f q (take (get_or lengths i 0) (drop at words))) (piles (drop (at + get_or lengths i 0) words) (drop (i + 1) lengths)) ≡ fold f q (piles (drop at words) (drop i lengths))
+pub piles-turn : {S : Type 0} (f : S → List ℕ → S) (q : S) (rest lengths : List ℕ) (i : ℕ) → i < length lengths
+    → fold f (f q (take (get_or lengths i 0) rest)) (piles (drop (get_or lengths i 0) rest) (drop (i + 1) lengths)) ≡ fold f q (piles rest (drop i lengths))
 unfolding piles
-piles-turn f q words lengths at i h = rw (add-one, drop-cons lengths i 0 h, drop-drop (get_or lengths i 0) at words)
+piles-turn f q rest lengths i h = rw (add-one, drop-cons lengths i 0 h)
 
 pub piles_end : {S : Type 0} (f : S → List ℕ → S) (q : S) (words lengths : List ℕ) (i : ℕ) → length lengths ≤ i → fold f q (piles words (drop i lengths)) ≡ q
 unfolding piles

@@ -1,8 +1,8 @@
 // The lengths of a set's piles, without its words.
-ghost use Rattle.std.specs.Prelude.{◌≡◌, ◌<◌, ltb};
+ghost use Rattle.std.specs.Prelude.{◌≡◌, ltb};
 ghost use Rattle.activity_scoring.specs.Score.{max_depth};
 ghost use Rattle.multi_sample_scoring.specs.Sets.{any_too_deep};
-ghost use Rattle.multi_sample_scoring.specs.Passed.{with_length, count_left};
+ghost use Rattle.multi_sample_scoring.specs.Passed.{count_left};
 
 use activity_scoring::MAX_DEPTH;
 
@@ -10,13 +10,7 @@ use activity_scoring::MAX_DEPTH;
 pub(crate) fn is_any_too_deep(lengths: &[u32]) -> bool
     ensures { result ≡ any_too_deep lengths.now }
 {
-    let mut any = false;
-    let mut i = 0;
-    while i < lengths.len() {
-        any = any | is_too_deep(lengths[i]);
-        i += 1;
-    }
-    any
+    lengths.iter().fold(false, |any, n| any | is_too_deep(*n))
 }
 
 fn is_too_deep(n: u32) -> bool
@@ -26,25 +20,9 @@ fn is_too_deep(n: u32) -> bool
 }
 
 // How many piles are not empty, so that they are left.
+#[tactic(auto, using(crate::proofs::Walk::counted_left))]
 pub(crate) fn count_left(lengths: &[u32]) -> usize
     ensures { result ≡ count_left lengths.now }
 {
-    let mut left = 0;
-    let mut i = 0;
-    while i < lengths.len() {
-        left = with_length(left, lengths[i]);
-        i += 1;
-    }
-    left
-}
-
-#[tactic(auto, using(std::proofs::lemmas::Bool::Decides::nat_tests))]
-fn with_length(left: usize, n: u32) -> usize
-    requires { left < 18446744073709551615 }
-    ensures { result ≡ with_length left n }
-{
-    if n == 0 {
-        return left;
-    }
-    left + 1
+    lengths.iter().filter(|n| **n != 0).count()
 }

@@ -23,14 +23,9 @@ pub(crate) fn with_pile(
     inactive_prob * clamp(1.0 - a.probability)
 }
 
+#[tactic(auto, unfolding(crate::specs::Sets::clamped))]
 fn clamp(x: f64) -> f64
     ensures { result ≡ clamped x }
 {
-    if x < 0.0 {
-        return 0.0;
-    }
-    if x > 1.0 {
-        return 1.0;
-    }
-    x
+    x.clamp(0.0, 1.0)
 }

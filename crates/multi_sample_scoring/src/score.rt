@@ -1,5 +1,5 @@
 // The score of a set.
-ghost use Rattle.std.specs.Prelude.{◌≡◌, ◌+◌, ◌*◌, ◌≤◌, length};
+ghost use Rattle.std.specs.Prelude.{◌≡◌, ◌≤◌, length};
 ghost use Rattle.genome.specs.Refusals.{outcome_of};
 ghost use Rattle.multi_sample_scoring.specs.Sets.{max_piles, total, set_score_of};
 ghost use Rattle.multi_sample_scoring.specs.Tables.{set_state_by, set_score_by};
@@ -66,25 +66,33 @@ pub fn haplotype_caller_activity_profile_state_multi_sample_by_tables(
     if !activity_scoring::are_observations(words) {
         return Err(Refusal::Word);
     }
-    Ok(set_state(contig, pos, words, lengths, params, tables))
+    Ok(set_state(contig, pos, Set { words, lengths }, params, tables))
 }
 
-// The state of a set that is not refused. The clip mean runs on from pile to pile, so it is that of the run.
+// The piles of a set that is not refused: each stands behind the one before, and they are all of the run.
+#[derive(Clone, Copy)]
+struct Set<'a> {
+    words: &'a [u32],
+    lengths: &'a [u32],
+    ghost few: { length lengths.now ≤ max_piles },
+    ghost whole: { total lengths.now ≡ length words.now },
+}
+
+// The state of a set. The clip mean runs on from pile to pile, so it is that of the run.
 fn set_state(
     contig: u32,
     pos: GenomePosition,
-    words: &[u32],
-    lengths: &[u32],
+    set: Set,
     params: HaplotypeCallerActivityScoringParams,
     tables: ScoringTables,
 ) -> ActivityProfileState
-    requires { (length lengths.now ≤ max_piles) × (total lengths.now ≡ length words.now) }
     ensures { result
-        ≡ set_state_by tables.entry.contributions.now tables.entry.priors.now contig pos words.now lengths.now params }
+        ≡ set_state_by tables.entry.contributions.now tables.entry.priors.now contig pos
+        set.entry.words.now set.entry.lengths.now params }
 {
-    let mean = activity_scoring::hq_soft_clip_running_mean_rcm_path(words, params);
+    let mean = activity_scoring::hq_soft_clip_running_mean_rcm_path(set.words, params);
     let evidence = activity_scoring::evidence_of(mean);
-    let a = set_activity(words, lengths, params, tables);
+    let a = set_activity(set, params, tables);
     ActivityProfileState {
         contig,
         pos,
@@ -97,16 +105,15 @@ fn set_state(
 // The activity of a set. With one pile left, the run is that pile.
 #[tactic(auto, using(crate::proofs::ByCount::by_count))]
 fn set_activity(
-    words: &[u32],
-    lengths: &[u32],
+    set: Set,
     params: HaplotypeCallerActivityScoringParams,
     tables: ScoringTables,
 ) -> Activity
-    requires { (length lengths.now ≤ max_piles) × (total lengths.now ≡ length words.now) }
     ensures { result
-        ≡ set_activity_by tables.entry.contributions.now tables.entry.priors.now params words.now lengths.now }
+        ≡ set_activity_by tables.entry.contributions.now tables.entry.priors.now params
+        set.entry.words.now set.entry.lengths.now }
 {
-    let left = count_left(lengths);
+    let left = count_left(set.lengths);
     if left == 0 {
         return Activity {
             probability: 0.0,
@@ -114,9 +121,9 @@ fn set_activity(
         };
     }
     if left == 1 {
-        return activity_scoring::activity_of(words, params, tables);
+        return activity_scoring::activity_of(set.words, params, tables);
     }
-    let probability = calculate_multi_sample_any_non_ref_posterior(words, lengths, params, tables);
+    let probability = calculate_multi_sample_any_non_ref_posterior(set, params, tables);
     Activity {
         probability,
         original: 0.0,
@@ -125,22 +132,20 @@ fn set_activity(
 
 // 1 less the product, in the order of the piles, of the probabilities that each is not active. Empty ones are passed over.
 fn calculate_multi_sample_any_non_ref_posterior(
-    words: &[u32],
-    lengths: &[u32],
+    set: Set,
     params: HaplotypeCallerActivityScoringParams,
     tables: ScoringTables,
 ) -> f64
-    requires { (length lengths.now ≤ max_piles) × (total lengths.now ≡ length words.now) }
-    ensures { result ≡ any_by tables.entry.contributions.now tables.entry.priors.now params words.now lengths.now }
+    ensures { result
+        ≡ any_by tables.entry.contributions.now tables.entry.priors.now params
+        set.entry.words.now set.entry.lengths.now }
 {
     let mut inactive_prob = 1.0;
-    let mut at = 0;
-    let mut i = 0;
-    while i < lengths.len() {
-        let end = past(at, lengths[i]);
-        inactive_prob = with_pile(inactive_prob, &words[at..end], params, tables);
-        at = end;
-        i += 1;
+    let mut rest = set.words;
+    for n in set.lengths {
+        let (pile, behind) = rest.split_at(*n as usize);
+        inactive_prob = with_pile(inactive_prob, pile, params, tables);
+        rest = behind;
     }
     1.0 - inactive_prob
 }
@@ -151,18 +156,8 @@ fn total_of(lengths: &[u32]) -> usize
     ensures { result ≡ total lengths.now }
 {
     let mut sum = 0;
-    let mut i = 0;
-    while i < lengths.len() {
-        sum = past(sum, lengths[i]);
-        i += 1;
+    for n in lengths {
+        sum = sum + *n as usize;
     }
     sum
-}
-
-// Where a pile of n words ends that begins at `at`.
-fn past(at: usize, n: u32) -> usize
-    requires { at ≤ max_piles * 4294967295 }
-    ensures { (result ≡ at + n) × (result ≤ at + 4294967295) }
-{
-    at + n as usize
 }

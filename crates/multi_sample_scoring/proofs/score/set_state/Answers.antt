@@ -12,4 +12,4 @@ returns c =
     let start = mean in
     let a = start.args in
     simp (c.set_activity-a.ensures, c.evidence_of-evidence.ensures, mean.hq_soft_clip_running_mean_rcm_path-mean.ensures)
-    (sym (state_is (λ (pile : List ℕ). rounded_by a.tables.contributions.now pile a.params) (from_rounded_by a.tables.priors.now a.params) a.contig a.pos a.params a.words.now a.lengths.now start.requires.1))
+    (sym (state_is (λ (pile : List ℕ). rounded_by a.tables.contributions.now pile a.params) (from_rounded_by a.tables.priors.now a.params) a.contig a.pos a.params a.set.words.now a.set.lengths.now a.set.whole))

@@ -1,17 +1,16 @@
 -- `total_of` meets its contract: the sum so far and the lengths from here on.
-use native.Mathlib.Omega.{arith}
+use Rattle.std.proofs.Common.{arith}
 use Rattle.multi_sample_scoring.proofs.Walk.{total_end, total-turn}
 use Rattle.multi_sample_scoring.proofs.score.total_of.Goals as goal
 
-pub loop-i-preserved : goal.loop-i-preserved
-loop-i-preserved c =
-    let at = c in
-    let a = at.args in
-    let e = c.past-sum.ensures in
-    (omega arith, omega (arith, total-turn a.lengths.now at.loop-i.i (omega arith), at.loop-i.invariant.1, e.0), omega (arith, e.1))
+pub loop-n-preserved : goal.loop-n-preserved
+loop-n-preserved c =
+    let at = c.loop-n in
+    let lengths = c.args.lengths.now in
+    record {
+      whole = omega (arith, total-turn lengths at.n-index (omega arith), at.invariant.whole);
+      small = omega (arith, at.invariant.small);
+    }
 
 pub returns : goal.returns
-returns c =
-    let at = c in
-    let a = at.args in
-    omega (arith, total_end a.lengths.now at.loop-i.i c.loop-i-test.false, at.loop-i.invariant.1)
+returns c = omega (arith, total_end c.args.lengths.now c.loop-n.n-index (omega arith), c.loop-n.invariant.whole)
