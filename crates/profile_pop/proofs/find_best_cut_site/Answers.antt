@@ -1,51 +1,44 @@
 -- `find_best_cut_site` meets its contract: what is left of the scan, done from here with the best so far, is the whole scan.
-use Prim.Native.Nat.{◌-◌, ◌<◌, ◌≤◌}
+use Prim.Native.Nat.{suc, ◌-◌}
 use mathlib.Core.Path.{◌∙◌, ◌≡◌, ap, refl, sym}
 use native.Mathlib.Omega.{arith}
-use Rattle.activity_profile.proofs.Cases.{better_below, better_keeps, better_takes, or_most-none, or_most_some}
+use Rattle.activity_profile.proofs.Cases.{better_below, better_keeps, better_takes}
 use Rattle.activity_profile.specs.Pop.{best_cut_site, better, or_most}
 use Rattle.lists.specs.Loops.{down, down_turn}
+use Rattle.profile_pop.specs.CutSize.{cut_size}
 use Rattle.profile_pop.proofs.find_best_cut_site.Goals as goal
-use Rattle.profile_pop.proofs.find_best_cut_site.Goals.{then-is_better, else-is_better}
+use Rattle.profile_pop.proofs.find_best_cut_site.Goals.{After-loop-i}
 
-pub loop-k-init : goal.loop-k-init
+pub loop-i-init : goal.loop-i-init
 unfolding best_cut_site
-loop-k-init c = (omega arith, omega arith, refl)
+loop-i-init c = (omega arith, refl)
 
-pub loop-k-preserved : goal.loop-k-preserved
-loop-k-preserved c =
+pub loop-i-preserved-then-is_better : goal.loop-i-preserved-then-is_better
+loop-i-preserved-then-is_better c =
     let a = c.args in
-    let xs = a.states.now in
-    let k = c.loop-k.k in
-    let best = c.loop-k.best in
-    let f = better xs a.least in
-    let h : a.least ≤ k = omega arith in
-    let h₁ : 0 < k = omega arith in
-    elim c.if-is_better.branch [
-      | then-is_better w ↦ (
-        omega arith,
-        omega arith,
-        ap (down f (k - 1)) (w.best-is ∙ sym (better_takes xs a.least k best h (sym c.is_better.ensures ∙ w.if-is_better.true))) ∙ down_turn f k best h₁ ∙ c.loop-k.invariant.2,
-      )
-      | else-is_better w ↦ (
-        omega arith,
-        omega arith,
-        ap (down f (k - 1)) (w.best-is ∙ sym (better_keeps xs a.least k best h (sym c.is_better.ensures ∙ w.if-is_better.false))) ∙ down_turn f k best h₁ ∙ c.loop-k.invariant.2,
-      )
-    ]
+    let k = c.loop-i.i in
+    let f = better a.states.now a.least in
+    let size : suc (k - 1) ≡ k = omega arith in
+    let takes = better_takes a.states.now a.least k (cut_size c.loop-i.best) (omega arith) (sym c.is_better.ensures ∙ c.if-is_better.true) in
+    (omega arith, rw size (ap (down f (k - 1)) (sym takes) ∙ down_turn f k (cut_size c.loop-i.best) (omega arith) ∙ c.loop-i.invariant.1))
 
-pub returns-then-best-eq0 : goal.returns-then-best-eq0
-returns-then-best-eq0 c =
+pub loop-i-preserved : goal.loop-i-preserved
+loop-i-preserved c =
     let a = c.args in
-    let b = c.loop-k.best in
-    let e : b ≡ best_cut_site a.states.now a.least a.most =
-    sym (better_below a.states.now a.least c.loop-k.k b (omega arith)) ∙ c.loop-k.invariant.2 in
-    sym (or_most-none a.most b c.if-best-eq0.true) ∙ ap (or_most a.most) e
+    let k = c.loop-i.i in
+    let f = better a.states.now a.least in
+    let keeps = better_keeps a.states.now a.least k (cut_size c.loop-i.best) (omega arith) (sym c.is_better.ensures ∙ c.if-is_better.false) in
+    (c.loop-i.invariant.0, ap (down f (k - 1)) (sym keeps) ∙ down_turn f k (cut_size c.loop-i.best) (omega arith) ∙ c.loop-i.invariant.1)
 
-pub returns : goal.returns
-returns c =
+whole : (c : After-loop-i) → let a = c.args in cut_size c.loop-i.best ≡ best_cut_site a.states.now a.least a.most
+whole c =
     let a = c.args in
-    let b = c.loop-k.best in
-    let e : b ≡ best_cut_site a.states.now a.least a.most =
-    sym (better_below a.states.now a.least c.loop-k.k b (omega arith)) ∙ c.loop-k.invariant.2 in
-    sym (or_most_some a.most b c.if-best-eq0.false) ∙ ap (or_most a.most) e
+    sym (better_below a.states.now a.least c.loop-i.i (cut_size c.loop-i.best) (omega arith)) ∙ c.loop-i.invariant.1
+
+pub returns-in-Some : goal.returns-in-Some
+unfolding or_most
+returns-in-Some c = rw (← whole (goal.at.returns-in-Some c).After-loop-i, c.in-Some.is) (omega arith)
+
+pub returns-in-None : goal.returns-in-None
+unfolding or_most
+returns-in-None c = rw (← whole (goal.at.returns-in-None c).After-loop-i, c.in-None.is) refl
