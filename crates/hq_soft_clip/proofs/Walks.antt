@@ -118,3 +118,5 @@ clip_is qs s n end h e =
 -- ---- a walk that has not passed the qualities
 pub capped_here : (n : ℕ) (s : Walk) → s.at ≤ n → s ≡ capped n s
 capped_here n s h = let e : min s.at n ≡ s.at = omega arith in rw e
+
+pub ruleset stays_capped = (capped_here)

@@ -37,10 +37,12 @@ pub fn count_high_quality_soft_clip_bases_rcm(
 
 // One word, by the SAM specification's table of CIGAR operations: an arm for each of its rows, in its order, below the row's letter, its
 // description and whether it consumes the query.
+#[tactic(auto, using(crate::proofs::Walks::stays_capped, std::proofs::lemmas::Bool::Decides::nat_tests), unfolding(crate::specs::SoftClips::by_operation))]
 fn walk_word(here: Walk, word: u32, qualities: &[u8]) -> Result<Walk, Refusal>
     requires { (here.count ≤ here.at) × (here.at ≤ length qualities.now) }
     ensures { outcome_of result ≡ capped_outcome (length qualities.now) (walked qualities.now here word) }
 {
+    // a number, the table's own key: an enum of the operations would be the table a second time
     let operation = word % 16;
     let past = pass(here, (word / 16) as usize, qualities.len());
     match operation {
