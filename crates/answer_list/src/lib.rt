@@ -36,7 +36,8 @@ impl From<io::Error> for ReadError {
     }
 }
 
-// The words of an answer, how far its results have been compared, and whether all so far were the same.
+// The words of an answer, how far its results have been compared, and whether all so far were the same. The place is told
+// where they differ too, since the arguments of the next call of a run stand behind it.
 #[derive(Clone, Copy)]
 pub struct Compared<'a> {
     pub words: &'a [u64],

@@ -1,7 +1,8 @@
 // The text of what the region program prints, in ASCII: document 01, 'The region program'. No public function has a `requires`.
 //
 // A text is written from the end of a lent buffer to its front, since a number's last digit comes first; each function
-// answers where it starts.
+// answers where it starts. The buffer and the place are two values: the caller lends an array and gets a place in it, so
+// that a type of both would be made and taken apart in each of the two public functions.
 #![tactic(auto)]
 
 ghost use Rattle.std.specs.Prelude.{◌≡◌, ◌+◌, ◌≤◌, length, drop, take};

@@ -10,7 +10,8 @@ ghost use Rattle.std.specs.Prelude.{◌≡◌, true, ◌⊎◌, ◌≤◌};
 use answer_list::{Compared, Function, double_at};
 pub use kernel::params_of;
 
-// Whether the library's results are those of the answer; true of these functions alone.
+// Whether the library's results are those of the answer; true of these functions alone. The function is given by its
+// number, since any number has an answer here, also one that is no function's.
 pub fn replay(function: u64, words: &[u64]) -> bool
     ensures { result ≡ true → ((1 ≤ function) × (function ≤ 9)) ⊎ (function ≡ 19) }
 {

@@ -9,7 +9,8 @@ ghost use Rattle.std.specs.Prelude.{◌≡◌, ◌≤◌, true};
 
 use answer_list::Function;
 
-// Whether the library's results are those of the answer; true of these functions alone.
+// Whether the library's results are those of the answer; true of these functions alone. The function is given by its
+// number, since any number has an answer here, also one that is no function's.
 pub fn replay(function: u64, words: &[u64]) -> bool
     ensures { result ≡ true → (10 ≤ function) × (function ≤ 12) }
 {

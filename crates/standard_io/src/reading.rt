@@ -11,7 +11,8 @@ use std::io;
 use std::io::{ErrorKind, Read};
 
 // Reads once, behind the bytes that were kept of a word, and answers the whole words that are there then, or the end where
-// the reader has come to it. A read that fails is an error: it leaves the words as they were, and takes nothing.
+// the reader has come to it. A read that fails is an error: it leaves the words as they were, and takes nothing. How many
+// bytes are kept is no part of a type with the block: every count is taken, by its remainder.
 pub fn read_words<R: Read>(
     reader: &mut R,
     kept: usize,

@@ -1,9 +1,0 @@
--- `items` ends: it goes through the items once.
-use Rattle.std.proofs.Common.{◌-◌}
-use Rattle.replay_stream.proofs.items.Given as goal
-
-abbrev pub invariant-loop-i : goal.invariant-loop-i
-invariant-loop-i l = Unit {0}
-
-abbrev pub decreases-loop-i : goal.decreases-loop-i
-decreases-loop-i l = l.count - l.i
