@@ -39,14 +39,12 @@ fn cell_at(j: usize, params: HaplotypeCallerActivityScoringParams) -> f64
     requires { j < table_length (ploidy_of params) }
     ensures { result ≡ cell_at params j }
 {
-    if j == 0 {
-        let p = params.sample_ploidy;
-        return p.0 as f64;
+    let p = params.sample_ploidy;
+    match j {
+        0 => p.0 as f64,
+        1 => params.active_region_alt_multiplier,
+        _ => entry_at(j - HEADING, params),
     }
-    if j == 1 {
-        return params.active_region_alt_multiplier;
-    }
-    entry_at(j - HEADING, params)
 }
 
 // What stands at a place of the rows.

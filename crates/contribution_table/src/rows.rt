@@ -137,14 +137,10 @@ fn row_of(qual: u8, is_alt: bool) -> usize
 fn sum_in(sums: Sums, place: usize) -> f64
     ensures { result ≡ sum_in sums place }
 {
-    if place == 0 {
-        return sums.a;
+    match place {
+        0 => sums.a,
+        1 => sums.b,
+        2 => sums.c,
+        _ => sums.d,
     }
-    if place == 1 {
-        return sums.b;
-    }
-    if place == 2 {
-        return sums.c;
-    }
-    sums.d
 }

@@ -142,18 +142,16 @@ fn prior_at(j: usize, ploidy: Ploidy, settings: Heterozygosity) -> f64
     requires { j < priors_length ploidy.0 }
     ensures { result ≡ prior_at ploidy.0 settings.snp settings.standard_deviation j }
 {
-    if j == 0 {
-        return ploidy.0 as f64;
+    match j {
+        0 => ploidy.0 as f64,
+        1 => settings.snp,
+        2 => settings.standard_deviation,
+        _ => {
+            let ref_pc = settings.ref_pseudocount();
+            let alt_pc = settings.snp_pseudocount();
+            ln_prior(ploidy.0 as u64, (j - HEADING) as u64, ref_pc, alt_pc) * elementary::LOG10_E
+        }
     }
-    if j == 1 {
-        return settings.snp;
-    }
-    if j == 2 {
-        return settings.standard_deviation;
-    }
-    let ref_pc = settings.ref_pseudocount();
-    let alt_pc = settings.snp_pseudocount();
-    ln_prior(ploidy.0 as u64, (j - HEADING) as u64, ref_pc, alt_pc) * elementary::LOG10_E
 }
 
 // As `calculate_single_sample_biallelic_non_ref_posterior`, by a list that `fill_log10_priors` filled. A list that carries
