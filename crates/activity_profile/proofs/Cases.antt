@@ -2,14 +2,12 @@
 use mathlib.Core.Path.{◌≡◌, refl}
 use mathlib.Core.Bool.{true, false}
 use mathlib.Core.List.{List}
-use Prim.Native.Nat.{ℕ, zero, suc, ◌+◌, ◌-◌, ◌≤◌, ◌<◌}
+use Prim.Native.Nat.{ℕ, zero, suc, ◌-◌, ◌≤◌, ◌<◌}
 use native.Mathlib.Omega.{arith}
 use borrow.Author.Tests.{le-leb, lt-leb}
 use lib.Ieee.{Float}
 use Rattle.lists.specs.Loops.{down}
-use Rattle.activity_profile.specs.declared.BandPassActivityProfile.{BandPassActivityProfile}
-use Rattle.activity_profile.specs.Profile.{holding}
-use Rattle.activity_profile.specs.Pop.{beats, replaces, better, or_most, rest}
+use Rattle.activity_profile.specs.Pop.{beats, replaces, better}
 
 -- a turn of the scan at a size from `least` on, and the sizes below it
 pub better_takes : (xs : List Float) (least k best : ℕ) → least ≤ k → beats xs (k - 1) best ≡ true → better xs least k best ≡ k
@@ -24,25 +22,3 @@ pub better_below : (xs : List Float) (least k best : ℕ) → k < least → down
 unfolding down better replaces
 better_below xs least zero best h = refl
 better_below xs least (suc k) best h = rw (lt-leb least (suc k) h) (better_below xs least k best (omega arith))
-
--- ---- the size where none qualifies
-pub or_most-none : (most c : ℕ) → c ≡ 0 → or_most most c ≡ most
-unfolding or_most
-or_most-none most zero e = refl
-or_most-none most (suc c) e = absurd (omega arith)
-
-pub or_most_some : (most c : ℕ) → (c ≡ 0 → ⊥) → or_most most c ≡ c
-unfolding or_most
-or_most_some most zero e = absurd (e refl)
-or_most_some most (suc c) e = refl
-
--- ---- the record that is left
-pub rest-none : (p : BandPassActivityProfile) (size left : ℕ) → left ≡ 0 → rest p size left ≡ holding p 0 0 0
-unfolding rest
-rest-none p size zero e = refl
-rest-none p size (suc n) e = absurd (omega arith)
-
-pub rest_some : (p : BandPassActivityProfile) (size left : ℕ) → (left ≡ 0 → ⊥) → rest p size left ≡ holding p (p.region_start + size) p.last_input_pos left
-unfolding rest
-rest_some p size zero e = absurd (e refl)
-rest_some p size (suc n) e = refl

@@ -26,13 +26,11 @@ pub fn add(
     ensures result_value { add_answer_of result ≡ add_answer p cells.old kernel.now state }
     ensures cells_after { cells.new ≡ add_cells p cells.old kernel.now state }
 {
-    match add_verdict(p, state, kernel.len(), cells.len()) {
-        Ok(()) => Ok(add_granted(p, state, kernel, cells)),
-        Err(refusal) => Err(RefusedCall {
-            refusal,
-            profile: p,
-        }),
-    }
+    add_verdict(p, state, kernel.len(), cells.len()).map_err(|refusal| RefusedCall {
+        refusal,
+        profile: p,
+    })?;
+    Ok(add_granted(p, state, kernel, cells))
 }
 
 // The add that is accepted: only the window's cells are lent on and written.
@@ -158,7 +156,6 @@ fn weight_of(kernel: &[f64], s: ActivityProfileState, j: usize) -> f64
 }
 
 // w, added to itself m - 1 times, left to right.
-#[tactic(auto, using(activity_profile::proofs::Adds::times_by))]
 fn times_of(m: u64, w: f64) -> f64
     ensures { result ≡ times m w }
 {

@@ -3,7 +3,7 @@
 
 ghost use Rattle.std.specs.Prelude.{◌≡◌, ◌+◌, ◌-◌, ◌≤◌, ◌<◌, length, Ok};
 ghost use Rattle.lists.specs.Each.{each};
-ghost use Rattle.activity_profile.specs.Verdict.{granted};
+ghost use Rattle.activity_profile.specs.Verdict.{granted, verdict_of};
 ghost use Rattle.activity_profile.specs.Pop.{kept, region_with, rest, pop_verdict, turn, ready, too_few};
 ghost use Rattle.activity_profile.specs.Pop.{pop_answer_of, pop_answer_by, pop_cells_by, pop_answer, pop_cells};
 ghost use Rattle.activity_profile.specs.Pop.{qualifies, beats, best_cut_site, or_most, size_of, moved_cell};
@@ -15,7 +15,7 @@ use profile_record::is_broken;
 use region_cells::{find_first_activity_boundary, peak_index};
 
 // Pops the next region that is ready, from the cells that are lent with the record. Refuses a broken record, then a region size of 0.
-#[tactic(auto, using(std::proofs::lemmas::Bool::Decides::nat_tests), unfolding(activity_profile::specs::Pop::pop_answer, activity_profile::specs::Pop::pop_cells, activity_profile::specs::Pop::pop_verdict, activity_profile::specs::Pop::turn, activity_profile::specs::Pop::pop_answer_by, activity_profile::specs::Pop::pop_cells_by))]
+#[tactic(auto, using(std::proofs::lemmas::Bool::Decides::nat_tests), unfolding(activity_profile::specs::Pop::pop_answer, activity_profile::specs::Pop::pop_cells, activity_profile::specs::Pop::turn, activity_profile::specs::Pop::pop_answer_by, activity_profile::specs::Pop::pop_cells_by))]
 pub fn try_pop_next_ready_region(
     p: BandPassActivityProfile,
     cells: &mut [f64],
@@ -30,18 +30,10 @@ pub fn try_pop_next_ready_region(
     ensures cells_after { cells.new
         ≡ pop_cells p cells.old min_region_size max_region_size force_conversion }
 {
-    if is_broken(p, cells.len()) {
-        return Err(RefusedCall {
-            refusal: Refusal::BrokenProfile,
-            profile: p,
-        });
-    }
-    if (min_region_size == 0) | (max_region_size == 0) {
-        return Err(RefusedCall {
-            refusal: Refusal::ZeroSize,
-            profile: p,
-        });
-    }
+    pop_verdict(p, cells.len(), min_region_size, max_region_size).map_err(|refusal| RefusedCall {
+        refusal,
+        profile: p,
+    })?;
     if p.count == 0 {
         return Ok(Popped::Empty(p));
     }
@@ -56,6 +48,25 @@ pub fn try_pop_next_ready_region(
         max_region_size,
         force_conversion,
     ))
+}
+
+// The first refusal that applies to a pop, in document 01's order, with so many cells lent.
+#[tactic(auto, using(std::proofs::lemmas::Bool::Decides::nat_tests), unfolding(activity_profile::specs::Pop::pop_verdict))]
+fn pop_verdict(
+    p: BandPassActivityProfile,
+    cells: usize,
+    least: u32,
+    most: u32,
+) -> Result<(), Refusal>
+    ensures { verdict_of result ≡ pop_verdict p cells least most }
+{
+    if is_broken(p, cells) {
+        return Err(Refusal::BrokenProfile);
+    }
+    if (least == 0) | (most == 0) {
+        return Err(Refusal::ZeroSize);
+    }
+    Ok(())
 }
 
 // Whether an unforced pop has too few cells: the count is below max + D.
