@@ -12,19 +12,23 @@ use Rattle.region_feed.specs.declared.Fed.{Fed}
 use Rattle.region_feed.specs.declared.Found.{Found}
 use Rattle.region_feed.specs.declared.Found.TheVariants.{Nothing, Line as FoundLine, Refused as FoundRefused}
 
+-- what comes of a word, or of the end of the input: a region to print, where there is one, or a refusal
+abbrev pub Found : Type 0
+Found = Result (Option ActivityProfileRegion) StreamRefusal
+
 -- what a step at the word at `at` leaves
-abbrev pub fed_by : Step → ℕ → Fed
-fed_by (Next t) at = record { stream = t; at = at + 1; found = Nothing }
-fed_by (Again t) at = record { stream = t; at = at; found = Nothing }
-fed_by (Line r t) at = record { stream = t; at = at; found = FoundLine r }
-fed_by (Refused y i t) at = record { stream = t; at = at; found = FoundRefused y i }
+abbrev pub fed_by : Result Step RefusedStep → ℕ → Fed
+fed_by (Ok (Next t)) at = record { stream = t; at = at + 1; found = Ok None }
+fed_by (Ok (Again t)) at = record { stream = t; at = at; found = Ok None }
+fed_by (Ok (Line r t)) at = record { stream = t; at = at; found = Ok (Some r) }
+fed_by (Err e) at = record { stream = e.stream; at = at; found = Err e.why }
 
 -- what a step at the end of the input brings
-abbrev pub found_in : Step → Found
-found_in (Next t) = Nothing
-found_in (Again t) = Nothing
-found_in (Line r t) = FoundLine r
-found_in (Refused y i t) = FoundRefused y i
+abbrev pub found_in : Result Step RefusedStep → Found
+found_in (Ok (Next t)) = Ok None
+found_in (Ok (Again t)) = Ok None
+found_in (Ok (Line r t)) = Ok (Some r)
+found_in (Err e) = Err e.why
 
 -- from the word at `at` on to the one at `next`, or with fewer times to act on it; a refusal ends the loop
 abbrev pub Nearer : Found → RegionStream → ℕ → RegionStream → ℕ → Type 0

@@ -10,19 +10,11 @@ ghost use Rattle.region_program.specs.Tables.{table_score};
 ghost use Rattle.region_feed.specs.Feed.{fed_by, found_in, closing, Closer, Ends, Prints, PrintsWord};
 
 use activity_profile::ActivityProfileRegion;
-use genome::Refusal;
 use pileup_words::StreamEvent;
-use region_program::{CELLS, KERNEL, PILE, PRIORS, RegionStream, Step, TABLE};
+use region_program::{RefusedStep, RegionStream, Step, StreamMemory, StreamRefusal, StreamTables};
 
-// What comes of a word, or of the end of the input.
-#[derive(Clone, Copy)]
-pub enum Found {
-    Nothing,
-    // A region to print.
-    Line(ActivityProfileRegion),
-    // A refusal to print, with the index of the word that it names: the program is over.
-    Refused(Refusal, u64),
-}
+// What comes of a word, or of the end of the input: a region to print, where there is one, or a refusal.
+pub type Found = Result<Option<ActivityProfileRegion>, StreamRefusal>;
 
 // The stream, the place of its next word, and what came of the word before.
 #[derive(Clone, Copy)]
@@ -37,36 +29,23 @@ pub fn advance(
     s: RegionStream,
     words: &[u32],
     at: usize,
-    pile: &mut [u32; PILE],
-    kernel: &mut [f64; KERNEL],
-    cells: &mut [f64; CELLS],
-    table: &[f64; TABLE],
-    priors: &[f64; PRIORS],
+    memory: &mut StreamMemory,
+    tables: &StreamTables,
 ) -> Fed
     ensures closer { Closer s (length words.now) at result }
-    ensures prints { Prints (table_score table.now priors.now) result.found
-        (seen s pile.old kernel.old cells.old) (drop at words.now)
-        (seen result.stream pile.new kernel.new cells.new) (drop result.at words.now) }
+    ensures prints { Prints (table_score tables.now.contributions tables.now.priors) result.found
+        (seen s memory.old.pile memory.old.kernel memory.old.cells) (drop at words.now)
+        (seen result.stream memory.new.pile memory.new.kernel memory.new.cells) (drop result.at words.now) }
 {
     if at < words.len() {
-        let observed = observation_runs::observations(s, &words[at..], pile);
+        let observed = observation_runs::observations(s, &words[at..], &mut memory.pile);
         let next = at + observed.taken;
-        let stream = observed.stream;
         if next < words.len() {
-            return act_on(
-                stream,
-                words[next],
-                next,
-                pile,
-                kernel,
-                cells,
-                table,
-                priors,
-            );
+            return act_on(observed.stream, words[next], next, memory, tables);
         }
-        return fed_to(stream, next, Found::Nothing);
+        return fed_to(observed.stream, next, Ok(None));
     }
-    fed_to(s, at, Found::Nothing)
+    fed_to(s, at, Ok(None))
 }
 
 // Acts on the word at `at`: where that ends a pile, once more.
@@ -74,39 +53,33 @@ fn act_on(
     s: RegionStream,
     word: u32,
     at: usize,
-    pile: &mut [u32; PILE],
-    kernel: &mut [f64; KERNEL],
-    cells: &mut [f64; CELLS],
-    table: &[f64; TABLE],
-    priors: &[f64; PRIORS],
+    memory: &mut StreamMemory,
+    tables: &StreamTables,
 ) -> Fed
     requires { at + 1 < 2 ^ 64 }
     ensures ends { Ends s at result }
-    ensures prints_word { PrintsWord (table_score table.now priors.now) word at result
-        (seen s pile.old kernel.old cells.old)
-        (seen result.stream pile.new kernel.new cells.new) }
+    ensures prints_word { PrintsWord (table_score tables.now.contributions tables.now.priors) word at result
+        (seen s memory.old.pile memory.old.kernel memory.old.cells)
+        (seen result.stream memory.new.pile memory.new.kernel memory.new.cells) }
 {
     let event = pileup_words::event_of(word);
-    let step = region_stream::act(event, s, pile, kernel, cells, table, priors);
-    let Step::Again(t) = step else {
+    let step = region_stream::act(event, s, memory, tables);
+    let Ok(Step::Again(t)) = step else {
         return fed_by(step, at);
     };
-    fed_by(
-        region_stream::act(event, t, pile, kernel, cells, table, priors),
-        at,
-    )
+    fed_by(region_stream::act(event, t, memory, tables), at)
 }
 
 // What a step at the word at `at` leaves.
-fn fed_by(step: Step, at: usize) -> Fed
+fn fed_by(step: Result<Step, RefusedStep>, at: usize) -> Fed
     requires { at + 1 < 2 ^ 64 }
     ensures { result ≡ fed_by step at }
 {
     match step {
-        Step::Next(t) => fed_to(t, at + 1, Found::Nothing),
-        Step::Again(t) => fed_to(t, at, Found::Nothing),
-        Step::Line(region, t) => fed_to(t, at, Found::Line(region)),
-        Step::Refused(why, index, t) => fed_to(t, at, Found::Refused(why, index)),
+        Ok(Step::Next(t)) => fed_to(t, at + 1, Ok(None)),
+        Ok(Step::Again(t)) => fed_to(t, at, Ok(None)),
+        Ok(Step::Line(region, t)) => fed_to(t, at, Ok(Some(region))),
+        Err(refused) => fed_to(refused.stream, at, Err(refused.why)),
     }
 }
 
@@ -120,40 +93,38 @@ fn fed_to(stream: RegionStream, at: usize, found: Found) -> Fed
 pub fn finish(
     s: RegionStream,
     remainder: bool,
-    pile: &mut [u32; PILE],
-    kernel: &mut [f64; KERNEL],
-    cells: &mut [f64; CELLS],
-    table: &[f64; TABLE],
-    priors: &[f64; PRIORS],
+    memory: &mut StreamMemory,
+    tables: &StreamTables,
 ) -> Found
-    ensures { FedBy (table_score table.now priors.now)
-        (seen s pile.old kernel.old cells.old) (last_event remainder ∷ []) (closing result) }
+    ensures { FedBy (table_score tables.now.contributions tables.now.priors)
+        (seen s memory.old.pile memory.old.kernel memory.old.cells)
+        (last_event remainder ∷ []) (closing result) }
 {
     let event = last_event(remainder);
-    let step = region_stream::act(event, s, pile, kernel, cells, table, priors);
-    let Step::Again(t) = step else {
+    let step = region_stream::act(event, s, memory, tables);
+    let Ok(Step::Again(t)) = step else {
         return found_in(step);
     };
-    found_in(region_stream::act(event, t, pile, kernel, cells, table, priors))
+    found_in(region_stream::act(event, t, memory, tables))
 }
 
 fn last_event(remainder: bool) -> StreamEvent
     ensures { result ≡ last_event remainder }
 {
     if remainder {
-        return StreamEvent::Remainder;
+        StreamEvent::Remainder
+    } else {
+        StreamEvent::End
     }
-    StreamEvent::End
 }
 
 // What the caller finds in the last step.
-fn found_in(step: Step) -> Found
+fn found_in(step: Result<Step, RefusedStep>) -> Found
     ensures { result ≡ found_in step }
 {
     match step {
-        Step::Next(_) => Found::Nothing,
-        Step::Again(_) => Found::Nothing,
-        Step::Line(region, _) => Found::Line(region),
-        Step::Refused(why, index, _) => Found::Refused(why, index),
+        Ok(Step::Next(_)) | Ok(Step::Again(_)) => Ok(None),
+        Ok(Step::Line(region, _)) => Ok(Some(region)),
+        Err(refused) => Err(refused.why),
     }
 }

@@ -6,12 +6,12 @@
 ghost use Rattle.std.specs.Prelude.{◌≡◌, false, ◌++◌, ◌+◌, ◌≤◌, ◌<◌, length, take};
 ghost use Rattle.region_program.specs.Stream.{seen, new_stream};
 ghost use Rattle.region_program.specs.Tables.{table_score};
-ghost use Rattle.region_run.specs.Run.{found_text, form_after, is_over, Steps, Feeds, Finishes, ROOM as room_of};
+ghost use Rattle.region_run.specs.Run.{found_text, form_after, Steps, Feeds, Finishes, ROOM as room_of};
 ghost use Rattle.region_print.specs.Buffers.{MOST as most_added};
 
 use region_feed::Found;
 use region_print::Form;
-use region_program::{CELLS, KERNEL, PILE, PRIORS, RegionStream, TABLE};
+use region_program::{RegionStream, StreamMemory, StreamTables};
 
 // The bytes of a block's text.
 pub const BLOCK: usize = 65536;
@@ -20,7 +20,7 @@ pub const BLOCK: usize = 65536;
 const ROOM: usize = 65430;
 
 // The stream, the form of what it prints next, the place of its next word in the block, how many bytes of text wait to be
-// written, and whether the run is over.
+// written, and whether the run is over. A flag beside the rest: of a run that is over too, the last text waits to be written.
 #[derive(Clone, Copy)]
 pub struct RegionRun {
     pub stream: RegionStream,
@@ -34,8 +34,13 @@ pub struct RegionRun {
 pub fn start(form: Form) -> RegionRun
     ensures { result ≡ record { stream = new_stream; form = form; at = 0; used = 0; over = false } }
 {
-    let stream = region_stream::new_stream();
-    run_at(stream, form, 0, 0, false)
+    RegionRun {
+        stream: region_stream::new_stream(),
+        form,
+        at: 0,
+        used: 0,
+        over: false,
+    }
 }
 
 // Feeds the words from `at` on: until they are done, until a line might find no room, or until a refusal ends the run.
@@ -44,24 +49,23 @@ pub fn feed(
     r: RegionRun,
     words: &[u32],
     text: &mut [u8; BLOCK],
-    pile: &mut [u32; PILE],
-    kernel: &mut [f64; KERNEL],
-    cells: &mut [f64; CELLS],
-    table: &[f64; TABLE],
-    priors: &[f64; PRIORS],
+    memory: &mut StreamMemory,
+    tables: &StreamTables,
 ) -> RegionRun
-    ensures { Feeds (table_score table.now priors.now) r result words.now text.new
-        (seen r.stream pile.old kernel.old cells.old)
-        (seen result.stream pile.new kernel.new cells.new) }
+    ensures { Feeds (table_score tables.now.contributions tables.now.priors) r result words.now text.new
+        (seen r.stream memory.old.pile memory.old.kernel memory.old.cells)
+        (seen result.stream memory.new.pile memory.new.kernel memory.new.cells) }
 {
-    let stream = r.stream;
-    let form = r.form;
-    let mut s = run_at(stream, form, r.at, 0, false);
+    let mut s = RegionRun {
+        used: 0,
+        over: false,
+        ..r
+    };
     while s.at < words.len() {
         if s.used > ROOM {
             return s;
         }
-        s = step(s, words, text, pile, kernel, cells, table, priors);
+        s = step(s, words, text, memory, tables);
     }
     s
 }
@@ -71,22 +75,22 @@ pub fn end(
     r: RegionRun,
     remainder: bool,
     text: &mut [u8; BLOCK],
-    pile: &mut [u32; PILE],
-    kernel: &mut [f64; KERNEL],
-    cells: &mut [f64; CELLS],
-    table: &[f64; TABLE],
-    priors: &[f64; PRIORS],
+    memory: &mut StreamMemory,
+    tables: &StreamTables,
 ) -> RegionRun
-    ensures { Finishes (table_score table.now priors.now) r.form remainder result text.new
-        (seen r.stream pile.old kernel.old cells.old) }
+    ensures { Finishes (table_score tables.now.contributions tables.now.priors) r.form remainder result text.new
+        (seen r.stream memory.old.pile memory.old.kernel memory.old.cells) }
 {
-    let stream = r.stream;
-    let form = r.form;
-    let found = region_feed::finish(stream, remainder, pile, kernel, cells, table, priors);
-    let behind = print(found, form, text, 0);
-    let last = form_after(found, form);
-    let used = region_print::print_end(last, text, behind);
-    run_at(stream, last, r.at, used, true)
+    let found = region_feed::finish(r.stream, remainder, memory, tables);
+    let behind = print(found, r.form, text, 0);
+    let form = form_after(found, r.form);
+    let used = region_print::print_end(form, text, behind);
+    RegionRun {
+        form,
+        used,
+        over: true,
+        ..r
+    }
 }
 
 // One step at the next word, and the text of what comes of it behind that of the steps before.
@@ -94,41 +98,34 @@ fn step(
     r: RegionRun,
     words: &[u32],
     text: &mut [u8; BLOCK],
-    pile: &mut [u32; PILE],
-    kernel: &mut [f64; KERNEL],
-    cells: &mut [f64; CELLS],
-    table: &[f64; TABLE],
-    priors: &[f64; PRIORS],
+    memory: &mut StreamMemory,
+    tables: &StreamTables,
 ) -> RegionRun
     requires { (r.at < length words.now) × (r.used ≤ room_of) }
-    ensures { Steps (table_score table.now priors.now) r result words.now
+    ensures { Steps (table_score tables.now.contributions tables.now.priors) r result words.now
         text.old text.new
-        (seen r.stream pile.old kernel.old cells.old)
-        (seen result.stream pile.new kernel.new cells.new) }
+        (seen r.stream memory.old.pile memory.old.kernel memory.old.cells)
+        (seen result.stream memory.new.pile memory.new.kernel memory.new.cells) }
 {
-    let stream = r.stream;
-    let form = r.form;
-    let fed = region_feed::advance(stream, words, r.at, pile, kernel, cells, table, priors);
-    let t = fed.stream;
-    let found = fed.found;
-    let used = print(found, form, text, r.used);
-    let next = form_after(found, form);
-    if is_over(found) {
-        return run_at(t, next, words.len(), used, true);
-    }
-    run_at(t, next, fed.at, used, false)
-}
-
-fn run_at(stream: RegionStream, form: Form, at: usize, used: usize, over: bool) -> RegionRun
-    ensures { result ≡ record { stream = stream; form = form; at = at; used = used; over = over } }
-{
-    RegionRun {
-        stream,
+    let fed = region_feed::advance(r.stream, words, r.at, memory, tables);
+    let used = print(fed.found, r.form, text, r.used);
+    let form = form_after(fed.found, r.form);
+    let stepped = RegionRun {
+        stream: fed.stream,
         form,
-        at,
+        at: fed.at,
         used,
-        over,
+        over: false,
+    };
+    if fed.found.is_err() {
+        let at = words.len();
+        return RegionRun {
+            at,
+            over: true,
+            ..stepped
+        };
     }
+    stepped
 }
 
 // Writes the text of what is found behind the bytes in use, and answers how many are in use then.
@@ -138,9 +135,9 @@ fn print(found: Found, form: Form, text: &mut [u8; BLOCK], used: usize) -> usize
     ensures text_after { take result text.new ≡ take used text.old ++ found_text form found }
 {
     match found {
-        Found::Nothing => used,
-        Found::Line(region) => region_print::print_region(region, form, text, used),
-        Found::Refused(why, index) => region_print::print_refusal(why, index, form, text, used),
+        Ok(None) => used,
+        Ok(Some(region)) => region_print::print_region(region, form, text, used),
+        Err(why) => region_print::print_refusal(why.refusal, why.index, form, text, used),
     }
 }
 
@@ -149,19 +146,8 @@ fn form_after(found: Found, form: Form) -> Form
     ensures { result ≡ form_after form found }
 {
     match found {
-        Found::Nothing => form,
-        Found::Line(_) => form.after_region(),
-        Found::Refused(_, _) => form.ended(),
-    }
-}
-
-// Whether what is found ends the run: a refusal.
-fn is_over(found: Found) -> bool
-    ensures { result ≡ is_over found }
-{
-    match found {
-        Found::Nothing => false,
-        Found::Line(_) => false,
-        Found::Refused(_, _) => true,
+        Ok(None) => form,
+        Ok(Some(_)) => form.after_region(),
+        Err(_) => form.ended(),
     }
 }
