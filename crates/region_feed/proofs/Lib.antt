@@ -1,2 +1,1 @@
-pub mod Nearing
 pub mod Printing

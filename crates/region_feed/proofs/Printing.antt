@@ -1,10 +1,8 @@
 -- What one step at a word prints, what two do, and what the end of the input does. Assumes nothing.
 use mathlib.Core.Path.{◌≡◌, refl, sym, ap, subst, ◌∙◌}
-use mathlib.Core.Logic.{inl, inr}
-use denote.Enum.Declared.{tag_of}
-use types.Run.{OneOf}
 use mathlib.Core.Bool.{Bool, true, false}
 use mathlib.Core.List.{List, [], ◌∷◌, ◌++◌, append_assoc}
+use Rattle.std.specs.Prelude.{Result, Ok, Err, Some, None}
 use Prim.Native.Nat.{ℕ, suc, ◌+◌, ◌-◌, ◌≤◌, ◌<◌}
 use native.Mathlib.Omega.{arith}
 use lib.ListN.{length, length-drop, get_or, take, drop, take-append-drop}
@@ -15,8 +13,8 @@ use Rattle.genome.specs.Refusals.{number_of, Outcome, refused, answered}
 use Rattle.activity_profile.specs.declared.BandPassActivityProfile.{BandPassActivityProfile}
 use Rattle.region_program.specs.declared.RegionStream.{RegionStream}
 use Rattle.region_program.specs.declared.Step.{Step}
-use Rattle.region_program.specs.contracts.Step.{the_type}
-use Rattle.region_program.specs.declared.Step.TheVariants.{Next, Again, Line, Refused}
+use Rattle.region_program.specs.declared.Step.TheVariants.{Next, Again, Line}
+use Rattle.region_program.specs.declared.RefusedStep.{RefusedStep}
 use Rattle.region_program.specs.Program.{Scoring, Reading, Place, at_settings, at_loci, in_pile, Answer, goes, again, line, stops, before_loci, between_piles, score_added, score_cells, ended_with, ended_by, within_pile}
 use Rattle.region_program.specs.Program.{act_at, act_by, Printed, printed, finished, after}
 use Rattle.region_program.specs.Feeding.{FedBy, at_last, onward, once_more, printing, halted}
@@ -25,43 +23,41 @@ use Rattle.region_program.specs.Stream.{seen, answer_of}
 use Rattle.region_program.proofs.Runs.{fed_run}
 use Rattle.region_program.proofs.Acts.{again_ends}
 use Rattle.region_feed.specs.declared.Fed.{Fed}
-use Rattle.region_feed.specs.declared.Found.{Found}
-use Rattle.region_feed.specs.declared.Found.TheVariants.{Nothing, Line as FoundLine, Refused as FoundRefused}
-use Rattle.region_feed.specs.Feed.{fed_by, found_in, closing, Prints, PrintsWord}
+use Rattle.region_feed.specs.Feed.{Found, fed_by, found_in, closing, Prints, PrintsWord}
 
 -- ---- a word
 
 module _ (scoring : Scoring) (w at : ℕ) (a : Reading) (pile : List ℕ) (kernel cells : List Float) where
-  pub step_prints : (step : Step) → answer_of step pile kernel cells ≡ act_by scoring (event_of w) a
+  pub step_prints : (step : Result Step RefusedStep) → answer_of step pile kernel cells ≡ act_by scoring (event_of w) a
       → PrintsWord scoring w at (fed_by step at) a (seen (fed_by step at).stream pile kernel cells)
   unfolding events_of
-  step_prints (Next t) e words =
+  step_prints (Ok (Next t)) e words =
       let one : at + 1 - at ≡ 1 = omega arith in
       rw one (λ later remainder p f. onward a (seen t pile kernel cells) (event_of w) (events_of (words ++ later) remainder) p (sym e) f)
-  step_prints (Again t) e words =
+  step_prints (Ok (Again t)) e words =
       let none : at - at ≡ 0 = omega arith in
       rw none (λ later remainder p f. once_more a (seen t pile kernel cells) (event_of w) (events_of (words ++ later) remainder) p (sym e) f)
-  step_prints (Line r t) e words =
+  step_prints (Ok (Line r t)) e words =
       let none : at - at ≡ 0 = omega arith in
       rw none (λ later remainder p f. printing a (seen t pile kernel cells) (event_of w) (events_of (words ++ later) remainder) r p (sym e) f)
-  step_prints (Refused y i t) e words = λ later remainder. halted a (seen t pile kernel cells) (event_of w) (events_of (words ++ later) remainder) (number_of y) i (sym e)
+  step_prints (Err y) e words = λ later remainder. halted a (seen y.stream pile kernel cells) (event_of w) (events_of (words ++ later) remainder) (number_of y.why.refusal) y.why.index (sym e)
 
 -- where the first step ended a pile, what is found is that of the second
 pub again_prints : (scoring : Scoring) (w : ℕ) (a b c : Reading) (f : Found) (words rest : List ℕ) → act_by scoring (event_of w) a ≡ again b
     → Prints scoring f b (w ∷ words) c rest → Prints scoring f a (w ∷ words) c rest
 unfolding events_of
-again_prints scoring w a b c Nothing words rest h g = λ later remainder p q. once_more a b (event_of w) (events_of (words ++ later) remainder) p h (g later remainder p q)
-again_prints scoring w a b c (FoundLine r) words rest h g = λ later remainder p q. once_more a b (event_of w) (events_of (words ++ later) remainder) (after r p) h (g later remainder p q)
-again_prints scoring w a b c (FoundRefused y i) words rest h g = λ later remainder. once_more a b (event_of w) (events_of (words ++ later) remainder) _ h (g later remainder)
+again_prints scoring w a b c (Ok None) words rest h g = λ later remainder p q. once_more a b (event_of w) (events_of (words ++ later) remainder) p h (g later remainder p q)
+again_prints scoring w a b c (Ok (Some r)) words rest h g = λ later remainder p q. once_more a b (event_of w) (events_of (words ++ later) remainder) (after r p) h (g later remainder p q)
+again_prints scoring w a b c (Err y) words rest h g = λ later remainder. once_more a b (event_of w) (events_of (words ++ later) remainder) _ h (g later remainder)
 
 -- ---- words that were taken before
 
 pub taken_prints : (scoring : Scoring) (a b c : Reading) (f : Found) (run words rest : List ℕ)
     → ((remainder : Bool) (more : List ℕ) (p : Printed) → FedBy scoring b (events_of more remainder) p → FedBy scoring a (events_of (run ++ more) remainder) p)
     → Prints scoring f b words c rest → Prints scoring f a (run ++ words) c rest
-taken_prints scoring a b c Nothing run words rest h g = λ later remainder p q. rw (append_assoc run words later) (h remainder (words ++ later) p (g later remainder p q))
-taken_prints scoring a b c (FoundLine r) run words rest h g = λ later remainder p q. rw (append_assoc run words later) (h remainder (words ++ later) (after r p) (g later remainder p q))
-taken_prints scoring a b c (FoundRefused y i) run words rest h g = λ later remainder. rw (append_assoc run words later) (h remainder (words ++ later) _ (g later remainder))
+taken_prints scoring a b c (Ok None) run words rest h g = λ later remainder p q. rw (append_assoc run words later) (h remainder (words ++ later) p (g later remainder p q))
+taken_prints scoring a b c (Ok (Some r)) run words rest h g = λ later remainder p q. rw (append_assoc run words later) (h remainder (words ++ later) (after r p) (g later remainder p q))
+taken_prints scoring a b c (Err y) run words rest h g = λ later remainder. rw (append_assoc run words later) (h remainder (words ++ later) _ (g later remainder))
 
 module _ (scoring : Scoring) (a b : Reading) (words : List ℕ) (at n : ℕ) (few : n ≤ length words - at) (acted : goes b ≡ acted_on scoring a (take n (take (length words - at) (drop at words)))) where
   run : List ℕ
@@ -83,8 +79,8 @@ module _ (scoring : Scoring) (a b : Reading) (words : List ℕ) (at n : ℕ) (fe
       (taken_prints scoring a b c f run (drop (at + n) words) rest (λ remainder more p q. fed_run scoring remainder a b run more p acted q) g)
 
   -- all the words were taken
-  pub taken_only : Prints scoring Nothing a (drop at words) b (drop (at + n) words)
-  taken_only = behind Nothing b (drop (at + n) words) (λ later remainder p q. q)
+  pub taken_only : Prints scoring (Ok None) a (drop at words) b (drop (at + n) words)
+  taken_only = behind (Ok None) b (drop (at + n) words) (λ later remainder p q. q)
 
   -- the word behind them was acted on
   pub advanced : (c : Reading) (r : Fed) → at + n < length words → at + n ≤ r.at → PrintsWord scoring (get_or words (at + n) 0) (at + n) r b c
@@ -127,29 +123,19 @@ no_line scoring remainder s = go remainder s.place
     go true (in_pile p i words) = ended_no_line scoring p i words s
     go false (in_pile p i words) = ended_no_line scoring p i words s
 
--- a step that asks to act again is none of the others
-not_again : (n : ℕ) → OneOf (0 ∷ 2 ∷ 3 ∷ []) n → n ≡ 1 → ⊥
-not_again n (inl e) f = omega arith
-not_again n (inr (inl e)) f = omega arith
-not_again n (inr (inr e)) f = omega arith
-
 module _ (scoring : Scoring) (remainder : Bool) (a : Reading) (pile : List ℕ) (kernel cells : List Float) where
-  last : (step : Step) → answer_of step pile kernel cells ≡ act_by scoring (last_event remainder) a → ((t : RegionStream) → step ≡ Again t → ⊥)
-      → FedBy scoring a (last_event remainder ∷ []) (closing (found_in step))
-  last (Next t) e n = onward a (seen t pile kernel cells) (last_event remainder) [] (printed [] finished) (sym e) (at_last (seen t pile kernel cells))
-  last (Again t) e n = absurd (n t refl)
-  last (Line r t) e n = absurd (subst NoLine (sym e) (no_line scoring remainder a))
-  last (Refused y i t) e n = halted a (seen t pile kernel cells) (last_event remainder) [] (number_of y) i (sym e)
-
   -- a step that does not end a pile is the last
-  pub last_prints : (step : Step) → answer_of step pile kernel cells ≡ act_by scoring (last_event remainder) a → OneOf (0 ∷ 2 ∷ 3 ∷ []) (tag_of the_type step)
+  pub last_prints : (step : Result Step RefusedStep) → answer_of step pile kernel cells ≡ act_by scoring (last_event remainder) a → ((t : RegionStream) → step ≡ Ok (Again t) → ⊥)
       → FedBy scoring a (last_event remainder ∷ []) (closing (found_in step))
-  last_prints step e k = last step e (λ t h. not_again (tag_of the_type step) k (ap (tag_of the_type) h))
+  last_prints (Ok (Next t)) e n = onward a (seen t pile kernel cells) (last_event remainder) [] (printed [] finished) (sym e) (at_last (seen t pile kernel cells))
+  last_prints (Ok (Again t)) e n = absurd (n t refl)
+  last_prints (Ok (Line r t)) e n = absurd (subst NoLine (sym e) (no_line scoring remainder a))
+  last_prints (Err y) e n = halted a (seen y.stream pile kernel cells) (last_event remainder) [] (number_of y.why.refusal) y.why.index (sym e)
 
   -- and so is the one behind the end of a pile, from z on to a, since none is open then
-  pub last_again : (z : Reading) (step : Step) → act_by scoring (last_event remainder) z ≡ again a → answer_of step pile kernel cells ≡ act_by scoring (last_event remainder) a
+  pub last_again : (z : Reading) (step : Result Step RefusedStep) → act_by scoring (last_event remainder) z ≡ again a → answer_of step pile kernel cells ≡ act_by scoring (last_event remainder) a
       → FedBy scoring z (last_event remainder ∷ []) (closing (found_in step))
   last_again z step h e =
       once_more z a (last_event remainder) [] (closing (found_in step)) h
-      (last step e (λ t g.
-      (again_ends scoring (last_event remainder) a (seen t pile kernel cells) (sym e ∙ ap (λ (x : Step). answer_of x pile kernel cells) g)).was (again_ends scoring (last_event remainder) z a h).none))
+      (last_prints step e (λ t g.
+      (again_ends scoring (last_event remainder) a (seen t pile kernel cells) (sym e ∙ ap (λ (x : Result Step RefusedStep). answer_of x pile kernel cells) g)).was (again_ends scoring (last_event remainder) z a h).none))

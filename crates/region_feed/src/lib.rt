@@ -63,11 +63,11 @@ fn act_on(
         (seen result.stream memory.new.pile memory.new.kernel memory.new.cells) }
 {
     let event = pileup_words::event_of(word);
-    let step = region_stream::act(event, s, memory, tables);
-    let Ok(Step::Again(t)) = step else {
-        return fed_by(step, at);
-    };
-    fed_by(region_stream::act(event, t, memory, tables), at)
+    match region_stream::act(event, s, memory, tables) {
+        Ok(Step::Again(t)) => fed_by(region_stream::act(event, t, memory, tables), at),
+        Ok(step) => fed_by(Ok(step), at),
+        Err(refused) => fed_by(Err(refused), at),
+    }
 }
 
 // What a step at the word at `at` leaves.
@@ -101,11 +101,12 @@ pub fn finish(
         (last_event remainder ∷ []) (closing result) }
 {
     let event = last_event(remainder);
-    let step = region_stream::act(event, s, memory, tables);
-    let Ok(Step::Again(t)) = step else {
-        return found_in(step);
-    };
-    found_in(region_stream::act(event, t, memory, tables))
+    match region_stream::act(event, s, memory, tables) {
+        Ok(Step::Again(t)) => found_in(region_stream::act(event, t, memory, tables)),
+        Ok(Step::Line(region, _)) => Ok(Some(region)),
+        Ok(Step::Next(_)) => Ok(None),
+        Err(refused) => Err(refused.why),
+    }
 }
 
 fn last_event(remainder: bool) -> StreamEvent
@@ -125,6 +126,6 @@ fn found_in(step: Result<Step, RefusedStep>) -> Found
     match step {
         Ok(Step::Next(_)) | Ok(Step::Again(_)) => Ok(None),
         Ok(Step::Line(region, _)) => Ok(Some(region)),
-        Err(refused) => Err(refused.why),
+        Err(stopped) => Err(stopped.why),
     }
 }
