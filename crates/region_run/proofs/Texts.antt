@@ -4,6 +4,7 @@ use mathlib.Core.Logic.{◌⊎◌, inl, inr}
 use native.Mathlib.Omega.{arith}
 use mathlib.Core.Bool.{Bool, true, false, true≢false, false≢true}
 use mathlib.Core.List.{List, [], ◌∷◌, ◌++◌, append-nil, append_assoc}
+use Rattle.std.specs.Prelude.{Ok, Err, Some, None}
 use Prim.Native.Nat.{ℕ, ◌+◌, ◌*◌, ◌/◌, ◌≤◌, ◌<◌}
 use lib.ListN.{length, take, drop}
 use lib.Ieee.{Float}
@@ -17,9 +18,7 @@ use Rattle.region_program.specs.Stream.{start, acts_left, most_acts}
 use Rattle.region_program.specs.Tables.{table_score, table_filled, list_filled}
 use Rattle.region_program.proofs.Tables.{score_of-filled}
 use Rattle.region_program.proofs.Feeding.{fed_prints, fed_same}
-use Rattle.region_feed.specs.declared.Found.{Found}
-use Rattle.region_feed.specs.declared.Found.TheVariants.{Nothing, Line, Refused}
-use Rattle.region_feed.specs.Feed.{Nearer, Prints, closing}
+use Rattle.region_feed.specs.Feed.{Found, Nearer, Prints, closing}
 use Rattle.region_program.proofs.Lines.{AllOn, lines_on_contig}
 use Rattle.region_text.specs.Text.{line_text, refusal_text}
 use Rattle.region_sheet.specs.Row.{region_row, AllFit}
@@ -51,21 +50,21 @@ refusal_alone (Sheet k) n i = refl
 -- what is found is written as its text: where it does not end the run, and where it does, whatever is said to be left then
 pub found_goes : (scoring : Scoring) (f : Found) (form : Form) (a b : Reading) (words rest : List ℕ) → is_over f ≡ false → Prints scoring f a words b rest
     → Wrote scoring false (found_text form f) form a words (form_after form f) b rest
-found_goes scoring Nothing form a b words rest e g = λ later remainder q h. (q, g later remainder q h, refl)
-found_goes scoring (Line r) form a b words rest e g = λ later remainder q h. (after r q, g later remainder q h, line_first form r q)
-found_goes scoring (Refused y i) form a b words rest e g = absurd (true≢false e)
+found_goes scoring (Ok None) form a b words rest e g = λ later remainder q h. (q, g later remainder q h, refl)
+found_goes scoring (Ok (Some r)) form a b words rest e g = λ later remainder q h. (after r q, g later remainder q h, line_first form r q)
+found_goes scoring (Err y) form a b words rest e g = absurd (true≢false e)
 
 pub found_stopped : (scoring : Scoring) (f : Found) (form form' : Form) (a b c : Reading) (words rest behind : List ℕ) → is_over f ≡ true → Prints scoring f a words b rest
     → Wrote scoring true (found_text form f) form a words form' c behind
-found_stopped scoring Nothing form form' a b c words rest behind e g = absurd (false≢true e)
-found_stopped scoring (Line r) form form' a b c words rest behind e g = absurd (false≢true e)
-found_stopped scoring (Refused y i) form form' a b c words rest behind e g = λ later remainder. (printed [] (refused_at (number_of y) i), g later remainder, refusal_alone form (number_of y) i)
+found_stopped scoring (Ok None) form form' a b c words rest behind e g = absurd (false≢true e)
+found_stopped scoring (Ok (Some r)) form form' a b c words rest behind e g = absurd (false≢true e)
+found_stopped scoring (Err y) form form' a b c words rest behind e g = λ later remainder. (printed [] (refused_at (number_of y.refusal) y.index), g later remainder, refusal_alone form (number_of y.refusal) y.index)
 
 -- and comes nearer to the end
 pub goes_nearer : (f : Found) (s t : RegionStream) (at next : ℕ) → is_over f ≡ false → Nearer f s at t next → acts_left t + at * (most_acts + 1) < acts_left s + next * (most_acts + 1)
-goes_nearer Nothing s t at next e n = n
-goes_nearer (Line r) s t at next e n = n
-goes_nearer (Refused y i) s t at next e n = absurd (true≢false e)
+goes_nearer (Ok None) s t at next e n = n
+goes_nearer (Ok (Some r)) s t at next e n = n
+goes_nearer (Err y) s t at next e n = absurd (true≢false e)
 
 -- ---- pieces behind each other
 
@@ -86,12 +85,12 @@ wrote_then scoring true x y f₁ f₂ f₃ a b c words rest behind f g = λ late
 -- the end of the input, and of the page that is open
 closing_text : (form : Form) (f : Found) → found_text form f ++ end_text (form_after form f) ≡ printed_text form (closing f)
 unfolding lines_text pages_from
-closing_text Listing Nothing = refl
-closing_text (Sheet k) Nothing = sym (append-nil (page_end k))
-closing_text Listing (Line r) = sym (append-nil (line_text r ++ []))
-closing_text (Sheet k) (Line r) = append_assoc (region_row r) (behind_row k) (page_end (rows_after k)) ∙ sym (append-nil (region_row r ++ (behind_row k ++ page_end (rows_after k))))
-closing_text Listing (Refused y i) = append-nil (refusal_text (number_of y) i)
-closing_text (Sheet k) (Refused y i) = append-nil (page_end k ++ refusal_text (number_of y) i)
+closing_text Listing (Ok None) = refl
+closing_text (Sheet k) (Ok None) = sym (append-nil (page_end k))
+closing_text Listing (Ok (Some r)) = sym (append-nil (line_text r ++ []))
+closing_text (Sheet k) (Ok (Some r)) = append_assoc (region_row r) (behind_row k) (page_end (rows_after k)) ∙ sym (append-nil (region_row r ++ (behind_row k ++ page_end (rows_after k))))
+closing_text Listing (Err y) = append-nil (refusal_text (number_of y.refusal) y.index)
+closing_text (Sheet k) (Err y) = append-nil (page_end k ++ refusal_text (number_of y.refusal) y.index)
 
 pub closed_text : (form : Form) (f : Found) (last : Form) (x y : List ℕ) → last ≡ form_after form f → x ≡ found_text form f → y ≡ x ++ end_text last → y ≡ printed_text form (closing f)
 closed_text form f last x y e g h = rw (h, g, e) (closing_text form f)

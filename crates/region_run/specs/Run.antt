@@ -1,13 +1,12 @@
 -- The text that a run prints, and that it comes to the end of its block.
-use Rattle.std.specs.Prelude.{Bool, true, false, List, [], ◌∷◌, ◌++◌, ◌≡◌, ℕ, ◌+◌, ◌*◌, ◌≤◌, ◌<◌, length, take, drop}
+use Rattle.std.specs.Prelude.{Ok, Err, Some, None, is_err, Bool, true, false, List, [], ◌∷◌, ◌++◌, ◌≡◌, ℕ, ◌+◌, ◌*◌, ◌≤◌, ◌<◌, length, take, drop}
 use Rattle.genome.specs.Refusals.{number_of}
 use Rattle.pileup_words.specs.Events.{events_of, last_event}
 use Rattle.activity_profile.specs.declared.ActivityProfileRegion.{ActivityProfileRegion}
 use Rattle.region_program.specs.Program.{Scoring, Reading, Close, finished, refused_at, Printed}
 use Rattle.region_program.specs.Feeding.{FedBy}
 use Rattle.region_program.specs.Stream.{most_acts, acts_left}
-use Rattle.region_feed.specs.declared.Found.{Found}
-use Rattle.region_feed.specs.declared.Found.TheVariants.{Nothing, Line, Refused}
+use Rattle.region_feed.specs.Feed.{Found}
 use Rattle.region_text.specs.Text.{line_text, refusal_text}
 use Rattle.region_sheet.specs.Pages.{pages_from}
 use Rattle.region_print.specs.declared.Form.{Form}
@@ -33,19 +32,17 @@ printed_text (Sheet rows) p = pages_from rows p.lines ++ close_text p.close
 
 -- what is found, as text, the form of what follows, and whether it ends the run
 abbrev pub found_text : Form → Found → List ℕ
-found_text form Nothing = []
-found_text form (Line r) = region_text form r
-found_text form (Refused y i) = stop_text form (number_of y) i
+found_text form (Ok None) = []
+found_text form (Ok (Some r)) = region_text form r
+found_text form (Err y) = stop_text form (number_of y.refusal) y.index
 
 abbrev pub form_after : Form → Found → Form
-form_after form Nothing = form
-form_after form (Line r) = after_region form
-form_after form (Refused y i) = ended form
+form_after form (Ok None) = form
+form_after form (Ok (Some r)) = after_region form
+form_after form (Err y) = ended form
 
 abbrev pub is_over : Found → Bool
-is_over Nothing = false
-is_over (Line r) = false
-is_over (Refused y i) = true
+is_over found = is_err found
 
 -- ---- what is written
 

@@ -110,18 +110,17 @@ fn step(
     let fed = region_feed::advance(r.stream, words, r.at, memory, tables);
     let used = print(fed.found, r.form, text, r.used);
     let form = form_after(fed.found, r.form);
+    let over = fed.found.is_err();
     let stepped = RegionRun {
         stream: fed.stream,
         form,
         at: fed.at,
         used,
-        over: false,
+        over,
     };
-    if fed.found.is_err() {
-        let at = words.len();
+    if over {
         return RegionRun {
-            at,
-            over: true,
+            at: words.len(),
             ..stepped
         };
     }

@@ -13,11 +13,10 @@ returns c =
     let found = c.finish-found.result in
     let long : length c.print-behind.new.text ≡ 65536 = search rules in
     let wrote = c.print_end-used.ensures in
-    let room = c.print-behind.ensures.upper_bound in
-    simp c.run_at.ensures (record {
+    let room = c.print-behind.ensures.upper_bound in record {
       printed = closing found;
       fed = c.finish-found.ensures;
-      written = closed_text _ found _ _ _ c.form_after-last.ensures c.print-behind.ensures.text_after (front_added _ _ _ _ _ (wrote.added (omega (arith, long, room))));
+      written = closed_text _ found _ _ _ c.form_after-form.ensures c.print-behind.ensures.text_after (front_added _ _ _ _ _ (wrote.added (omega (arith, long, room))));
       room = omega (arith, wrote.few, room);
       over = refl;
-    })
+    }

@@ -8,7 +8,8 @@ use Rattle.region_run.proofs.feed.Given as goal
 
 abbrev pub invariant-loop-s : goal.invariant-loop-s
 invariant-loop-s l =
-    So (table_score l.table l.priors) l.initial.s l.s l.words l.text (seen l.initial.s.stream l.initial.pile l.initial.kernel l.initial.cells) (seen l.s.stream l.pile l.kernel l.cells)
+    So (table_score l.tables.contributions l.tables.priors) l.initial.s l.s l.words l.text (seen l.initial.s.stream l.initial.memory.pile l.initial.memory.kernel l.initial.memory.cells)
+    (seen l.s.stream l.memory.pile l.memory.kernel l.memory.cells)
 
 abbrev pub decreases-loop-s : goal.decreases-loop-s
 decreases-loop-s l = (length l.words - l.s.at) * (most_acts + 1) + acts_left l.s.stream

@@ -11,37 +11,37 @@ use Rattle.region_run.proofs.Texts.{found_goes, found_stopped, goes_nearer}
 use Rattle.region_run.specs.Run.{found_text}
 use Rattle.region_run.proofs.step.Goals as goal
 
-pub returns-then-is_over : goal.returns-then-is_over
-returns-then-is_over c =
+pub returns-then-over : goal.returns-then-over
+returns-then-over c =
     let a = c.args in
     let f = c.advance-fed.result in
     let e = c.advance-fed.ensures in
-    let left = c.advance-fed.new in
+    let left = c.advance-fed.new.memory in
     let after = seen f.stream left.pile left.kernel left.cells in
-    let stops = sym c.is_over.ensures ∙ c.if-is_over.true in
-    simp c.run_at.ensures (record {
+    let stops = sym c.is_err-over.ensures.value ∙ c.if-over.true in
+    let scoring = table_score a.tables.now.contributions a.tables.now.priors in record {
       new = found_text a.r.form f.found;
       written = c.print-used.ensures.text_after;
-      wrote = found_stopped (table_score a.table.now a.priors.now) f.found a.r.form c.form_after-next.result _ after after _ (drop f.at a.words.now) [] stops e.prints;
+      wrote = rw c.if-over.true (found_stopped scoring f.found a.r.form c.form_after-form.result _ after after _ (drop f.at a.words.now) [] stops e.prints);
       room = omega (arith, c.print-used.ensures.upper_bound, c.requires.1);
       done = λ h. refl;
       within = omega arith;
       nearer = omega (arith, c.requires.0, acts_few f.stream);
-    })
+    }
 
 pub returns : goal.returns
 returns c =
     let a = c.args in
     let f = c.advance-fed.result in
     let e = c.advance-fed.ensures in
-    let goes = sym c.is_over.ensures ∙ c.if-is_over.false in
-    let scoring = table_score a.table.now a.priors.now in
-    simp (c.run_at-2.ensures, c.form_after-next.ensures) (record {
+    let goes = sym c.is_err-over.ensures.value ∙ c.if-over.false in
+    let scoring = table_score a.tables.now.contributions a.tables.now.priors in
+    simp c.form_after-form.ensures (record {
       new = found_text a.r.form f.found;
       written = c.print-used.ensures.text_after;
-      wrote = found_goes scoring f.found a.r.form _ _ _ _ goes e.prints;
+      wrote = rw c.if-over.false (found_goes scoring f.found a.r.form _ _ _ _ goes e.prints);
       room = omega (arith, c.print-used.ensures.upper_bound, c.requires.1);
-      done = λ h. absurd (false≢true h);
+      done = λ h. absurd (false≢true (sym c.if-over.false ∙ h));
       within = e.closer.within (omega (arith, c.requires.0));
       nearer = goes_nearer f.found _ _ _ _ goes (e.closer.nearer c.requires.0);
     })
