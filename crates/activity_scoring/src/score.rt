@@ -26,10 +26,9 @@ pub fn haplotype_caller_activity_profile_state_single_sample(
 ) -> Result<ActivityProfileState, Refusal>
     ensures { outcome_of result ≡ score_of contig pos pile.now params }
 {
-    let array = [0.0; 1];
     let none = ScoringTables {
-        contributions: &array[..0],
-        priors: &array[..0],
+        contributions: &[],
+        priors: &[],
     };
     haplotype_caller_activity_profile_state_by_tables(contig, pos, pile, params, none)
 }

@@ -42,12 +42,11 @@ pub fn calculate_single_sample_biallelic_non_ref_posterior(
     ensures gl_after { gl.new
         ≡ posterior_written snp_heterozygosity heterozygosity_standard_deviation gl.old }
 {
-    let array = [0.0; 1];
     calculate_single_sample_biallelic_non_ref_posterior_by_priors(
         gl,
         snp_heterozygosity,
         heterozygosity_standard_deviation,
-        &array[..0],
+        &[],
     )
 }
 

@@ -24,10 +24,9 @@ pub fn haplotype_caller_activity_profile_state_multi_sample(
 ) -> Result<ActivityProfileState, Refusal>
     ensures { outcome_of result ≡ set_score_of contig pos words.now lengths.now params }
 {
-    let array = [0.0; 1];
     let none = ScoringTables {
-        contributions: &array[..0],
-        priors: &array[..0],
+        contributions: &[],
+        priors: &[],
     };
     haplotype_caller_activity_profile_state_multi_sample_by_tables(
         contig, pos, words, lengths, params, none,
