@@ -2,6 +2,7 @@
 use Rattle.std.specs.Prelude.{◌≡◌, refl, Bool, true, false, cond, List, [], ◌∷◌, map, ℕ, zero, suc, ◌+◌, ◌≤◌, ◌<◌, eqb, length, get_or, take, drop, Float}
 use Rattle.std.specs.List.{fold}
 use Rattle.std.proofs.Common.{ap, ◌∙◌, not-suc-le-zero, arith, ne_eqb, length-drop, length-take-le, drop-drop}
+use Rattle.std.proofs.lemmas.List.{take-map, drop-map}
 use Rattle.lists.specs.Without.{without, fold-without}
 use Rattle.genotype_likelihoods.specs.declared.HaplotypeCallerActivityScoringParams.{HaplotypeCallerActivityScoringParams}
 use Rattle.genotype_likelihoods.specs.Observation.{skipped}
@@ -25,17 +26,6 @@ unfolding piles total
 pile_at_lem words [] i h = absurd (not-suc-le-zero h)
 pile_at_lem words (n ∷ lengths) zero h = refl
 pile_at_lem words (n ∷ lengths) (suc i) h = pile_at_lem (drop n words) lengths i (omega arith) ∙ ap (take (get_or lengths i 0)) (drop-drop (total (take i lengths)) n words)
-
-module _ {A B : Type 0} (f : A → B) where
-  map-take : (n : ℕ) (l : List A) → take n (map f l) ≡ map f (take n l)
-  map-take zero l = refl
-  map-take (suc n) [] = refl
-  map-take (suc n) (x ∷ l) = ap (λ (t : List B). f x ∷ t) (map-take n l)
-
-  map-drop : (n : ℕ) (l : List A) → drop n (map f l) ≡ map f (drop n l)
-  map-drop zero l = refl
-  map-drop (suc n) [] = refl
-  map-drop (suc n) (x ∷ l) = map-drop n l
 
 -- how many lengths are not 0, one length more
 pub count_more : (k : ℕ) (lengths : List ℕ) → fold with_length k lengths ≡ k + count_left lengths
@@ -68,7 +58,7 @@ pub member : (s : HaplotypeCallerActivityScoringParams) (words lengths : List �
 member s words lengths e i h = record {
   within = omega (arith, e, within_run lengths i);
   pile = pile_at_lem words lengths i h;
-  skips = ap (take (get_or lengths i 0)) (map-drop (skipped s) (start_of lengths i) words) ∙ map-take (skipped s) (get_or lengths i 0) (drop (start_of lengths i) words);
+  skips = ap (take (get_or lengths i 0)) (drop-map (skipped s) (start_of lengths i) words) ∙ take-map (skipped s) (get_or lengths i 0) (drop (start_of lengths i) words);
   likelihoods = λ some. likelihoods-at s words lengths i (omega (arith, e)) h some ∙ ap (λ (pile : List ℕ). rounded_of pile s) (pile_at_lem words lengths i h);
 }
 

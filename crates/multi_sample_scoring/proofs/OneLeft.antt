@@ -2,6 +2,7 @@
 use Rattle.std.specs.Prelude.{◌≡◌, refl, Bool, true, false, cond, ◌||◌, ℕ, ◌+◌, ◌≤◌, ltb, eqb, length, Float}
 use Rattle.std.specs.List.{fold}
 use Rattle.std.proofs.Common.{sym, ap, ◌∙◌, add-zero, zero-add, arith, eqb-true, le-ltb, eq-eqb}
+use Rattle.std.proofs.Math.Bool.{or-false}
 use mathlib.Core.List.{List, [], ◌∷◌, flatten, append-nil}
 use Rattle.genome.specs.declared.GenomePosition.{GenomePosition}
 use Rattle.genotype_likelihoods.specs.declared.HaplotypeCallerActivityScoringParams.{HaplotypeCallerActivityScoringParams}
@@ -29,10 +30,6 @@ few_left rounded activity contig p s words lengths e h = go (piles_left words le
 
 -- ---- the depth
 
-or_none : (b : Bool) → (b || false) ≡ b
-or_none true = refl
-or_none false = refl
-
 -- zeros are not too deep, and add up to 0
 none_deep : (b : Bool) (lengths : List ℕ) → count_left lengths ≤ 0 → (fold or_too_deep b lengths ≡ b) × (total lengths ≡ 0)
 unfolding total
@@ -41,18 +38,18 @@ none_deep b (n ∷ lengths) h = go (eqb n 0) (eqb-true n 0) (omega (arith, count
   where
     go : (c : Bool) → (c ≡ true → n ≡ 0) → cond c 0 (0 + 1) + count_left lengths ≤ 0 → (count_left lengths ≤ 0 → (fold or_too_deep b lengths ≡ b) × (total lengths ≡ 0))
         → (fold or_too_deep (b || ltb max_depth n) lengths ≡ b) × (n + total lengths ≡ 0)
-    go true f k rest = let r = rest (omega arith) in (rw (f refl, or_none b) r.0, omega (arith, f refl, r.1))
+    go true f k rest = let r = rest (omega arith) in (rw (f refl, or-false b) r.0, omega (arith, f refl, r.1))
     go false f k rest = absurd (omega arith)
 
 -- with one pile left, a pile is too deep where the run is
 deep_is : (b : Bool) (lengths : List ℕ) → count_left lengths ≤ 1 → fold or_too_deep b lengths ≡ (b || ltb max_depth (total lengths))
 unfolding total
-deep_is b [] h = sym (or_none b)
+deep_is b [] h = sym (or-false b)
 deep_is b (n ∷ lengths) h = go (eqb n 0) (eqb-true n 0) (omega (arith, count_more (cond (eqb n 0) 0 (0 + 1)) lengths, h)) (λ k. deep_is b lengths k)
   where
     go : (c : Bool) → (c ≡ true → n ≡ 0) → cond c 0 (0 + 1) + count_left lengths ≤ 1 → (count_left lengths ≤ 1 → fold or_too_deep b lengths ≡ (b || ltb max_depth (total lengths)))
         → fold or_too_deep (b || ltb max_depth n) lengths ≡ (b || ltb max_depth (n + total lengths))
-    go true f k rest = rw (f refl, or_none b, zero-add (total lengths)) (rest (omega arith))
+    go true f k rest = rw (f refl, or-false b, zero-add (total lengths)) (rest (omega arith))
     go false f k rest = let r = none_deep (b || ltb max_depth n) lengths (omega arith) in r.0 ∙ rw (r.1, add-zero n)
 
 -- ---- the score

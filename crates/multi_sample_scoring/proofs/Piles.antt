@@ -4,6 +4,7 @@ use Rattle.std.specs.Prelude.{◌≡◌, Bool, true, false, ℕ, ◌+◌, ◌≤
 use Rattle.std.specs.List.{fold}
 use Rattle.std.proofs.Math.Path.{refl, ap}
 use Rattle.std.proofs.Common.{sym, ◌∙◌, add-zero, zero-add, arith, eqb-true, length-drop, take-append-drop, length-take-le}
+use Rattle.std.proofs.lemmas.List.{nil_from_length}
 use Rattle.std.proofs.lemmas.List.Sums.{fold-append}
 use Rattle.std.proofs.Math.Bool.{cond}
 use mathlib.Core.List.{List, [], ◌∷◌, ◌++◌, map, flatten, append-nil, nil≢cons, head-eq_of_cons-eq}
@@ -22,13 +23,9 @@ use Rattle.multi_sample_scoring.specs.Passed.{with_length, count_left, set_activ
 
 -- ---- the piles as one run
 
-none_of : {A : Type 0} (l : List A) → length l ≡ 0 → l ≡ []
-none_of [] e = refl
-none_of (x ∷ l) e = absurd (omega (arith, e))
-
 pub piles_are_the_run : (words lengths : List ℕ) → total lengths ≡ length words → flatten (piles words lengths) ≡ words
 unfolding piles total flatten
-piles_are_the_run words [] e = sym (none_of words (sym e))
+piles_are_the_run words [] e = sym (nil_from_length words (sym e))
 piles_are_the_run words (n ∷ lengths) e =
     ap (λ (l : List ℕ). take n words ++ l) (piles_are_the_run (drop n words) lengths (omega (arith, e, length-drop n words)))
     ∙ take-append-drop n words
@@ -40,7 +37,7 @@ flatten_left [] = refl
 flatten_left (p ∷ ps) = go (is_empty p) (eqb-true (length p) 0) (flatten_left ps)
   where
     go : (b : Bool) → (b ≡ true → length p ≡ 0) → flatten (without is_empty ps) ≡ flatten ps → flatten (cond b (without is_empty ps) (p ∷ without is_empty ps)) ≡ p ++ flatten ps
-    go true f rest = rw (none_of p (f refl)) rest
+    go true f rest = rw (nil_from_length p (f refl)) rest
     go false f rest = ap (λ (l : List ℕ). p ++ l) rest
 
 pub left_are_the_run : (words lengths : List ℕ) → total lengths ≡ length words → flatten (piles_left words lengths) ≡ words
@@ -78,7 +75,7 @@ count_is words lengths e = count_from 0 words lengths (omega (arith, e)) ∙ zer
 -- ---- none is left, or one, or several
 
 pub no_pile : (words lengths : List ℕ) → total lengths ≡ length words → count_left lengths ≡ 0 → piles_left words lengths ≡ []
-no_pile words lengths e h = none_of (piles_left words lengths) (sym (count_is words lengths e) ∙ h)
+no_pile words lengths e h = nil_from_length (piles_left words lengths) (sym (count_is words lengths e) ∙ h)
 
 -- the pile that is left is the run
 pub one_pile : (words lengths : List ℕ) → total lengths ≡ length words → count_left lengths ≡ 1 → piles_left words lengths ≡ words ∷ []
