@@ -23,7 +23,7 @@ impl Form {
     {
         match self {
             Form::Listing => Form::Listing,
-            Form::Sheet { rows: _ } => Form::Sheet { rows: 0 },
+            Form::Sheet { .. } => Form::Sheet { rows: 0 },
         }
     }
 }

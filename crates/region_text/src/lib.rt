@@ -7,7 +7,7 @@
 
 ghost use Rattle.std.specs.Prelude.{◌≡◌, ◌+◌, ◌≤◌, length, drop, take};
 ghost use Rattle.genome.specs.Refusals.{number_of};
-ghost use Rattle.region_text.specs.Text.{decimal, number_onto, line_onto, refusal_onto, line_text, refusal_text, refused_word};
+ghost use Rattle.region_text.specs.Text.{decimal, number_onto, line_text, refusal_text, refused_word};
 ghost use Rattle.region_text.specs.Writing.{Writes, byte_onto};
 
 use activity_profile::ActivityProfileRegion;
@@ -29,22 +29,6 @@ pub fn line_text(region: ActivityProfileRegion, text: &mut [u8; TEXT]) -> usize
     ensures text_unchanged { take result text.new ≡ take result text.old }
     ensures upper_bound { result ≤ 105 }
 {
-    line_in(region, text)
-}
-
-// The line of a refusal and the index of the word that it names.
-pub fn refusal_text(why: Refusal, index: u64, text: &mut [u8; TEXT]) -> usize
-    ensures text_after { drop result text.new ≡ refusal_text (number_of why) index }
-    ensures text_unchanged { take result text.new ≡ take result text.old }
-    ensures upper_bound { result ≤ 105 }
-{
-    refusal_in(why, index, text)
-}
-
-fn line_in(region: ActivityProfileRegion, text: &mut [u8]) -> usize
-    requires { length text.old ≡ 105 }
-    ensures { Writes 105 (line_onto region) text.old 105 text.new result }
-{
     let end = number(text, TEXT, LINE_FEED, u64::from(region.padded_end));
     let low = number(text, end, BLANK, u64::from(region.padded_start));
     let flag = number(text, low, BLANK, u64::from(region.is_active));
@@ -52,9 +36,11 @@ fn line_in(region: ActivityProfileRegion, text: &mut [u8]) -> usize
     number(text, last, BLANK, u64::from(region.start))
 }
 
-fn refusal_in(why: Refusal, index: u64, text: &mut [u8]) -> usize
-    requires { length text.old ≡ 105 }
-    ensures { Writes 105 (refusal_onto (number_of why) index) text.old 105 text.new result }
+// The line of a refusal and the index of the word that it names.
+pub fn refusal_text(why: Refusal, index: u64, text: &mut [u8; TEXT]) -> usize
+    ensures text_after { drop result text.new ≡ refusal_text (number_of why) index }
+    ensures text_unchanged { take result text.new ≡ take result text.old }
+    ensures upper_bound { result ≤ 105 }
 {
     let last = number(text, TEXT, LINE_FEED, index);
     let first = number(text, last, BLANK, u64::from(why.number()));
