@@ -7,13 +7,14 @@ use Rattle.std.proofs.Common.{sub-one, zero-add}
 use Rattle.std.proofs.Math.Nat.{add-zero}
 use lib.Dec.{leb, ltb}
 use lib.Ieee.{Float, binary64, add}
-use Rattle.std.specs.List.{fold, range_with_len}
+use Rattle.std.proofs.lemmas.List.Sums.{sum_by-cons}
+use Rattle.std.specs.List.{count_by, fold, range_with_len}
 use borrow.Author.Tests.{ltb-true, ltb-false, leb-true, leb-false}
 use Rattle.activity_profile.specs.declared.BandPassActivityProfile.{BandPassActivityProfile}
 use Rattle.activity_profile.specs.declared.ActivityEvidence.TheVariants.{HighQualitySoftClips}
 use Rattle.activity_profile.specs.Loci.{from}
 use Rattle.activity_profile.specs.Profile.{D}
-use Rattle.activity_profile.specs.Add.{counted, super_states, times}
+use Rattle.activity_profile.specs.Add.{super_states, times}
 
 -- ---- the m-fold sum
 
@@ -30,15 +31,17 @@ times_by a (suc m) w = rw sub-one (go a m zero ∙ rw zero-add)
 -- ---- super states
 
 -- how many of n offsets from a on lie in the stretch
-pub counted_is : (low q high a n : ℕ) → counted (λ j. ltb low (q + j) && leb (q + j) high) (from a n) ≡ min (high + 1) (q + a + n) - max (low + 1) (q + a)
+pub counted_is : (low q high a n : ℕ) → count_by (λ j. ltb low (q + j) && leb (q + j) high) (from a n) ≡ min (high + 1) (q + a + n) - max (low + 1) (q + a)
 counted_is low q high a zero = omega arith
-counted_is low q high a (suc n) = go (ltb low (q + a)) (leb (q + a) high) refl refl (counted_is low q high (suc a) n)
+counted_is low q high a (suc n) =
+    sum_by-cons (λ j. cond (ltb low (q + j) && leb (q + j) high) 1 0) a (from (suc a) n)
+    ∙ go (ltb low (q + a)) (leb (q + a) high) refl refl (counted_is low q high (suc a) n)
   where
     rest : ℕ
-    rest = counted (λ j. ltb low (q + j) && leb (q + j) high) (from (suc a) n)
+    rest = count_by (λ j. ltb low (q + j) && leb (q + j) high) (from (suc a) n)
 
     go : (b c : Bool) → ltb low (q + a) ≡ b → leb (q + a) high ≡ c → rest ≡ min (high + 1) (q + suc a + n) - max (low + 1) (q + suc a)
-        → cond (b && c) (suc rest) rest ≡ min (high + 1) (q + a + suc n) - max (low + 1) (q + a)
+        → cond (b && c) 1 0 + rest ≡ min (high + 1) (q + a + suc n) - max (low + 1) (q + a)
     go true true e f h = omega (arith, ltb-true low (q + a) e, leb-true (q + a) high f)
     go true false e f h = omega (arith, ltb-true low (q + a) e, leb-false (q + a) high f)
     go false c e f h = omega (arith, ltb-false low (q + a) e)
@@ -52,7 +55,7 @@ pub clips_is : (p : BandPassActivityProfile) (q c : ℕ) → 1 ≤ q → q ≤ p
 unfolding super_states
 clips_is p q c h₁ h₂ = go (min c (D p))
   where
-    go : (n : ℕ) → min p.contig_len (q + n) - max 1 (q - n) + 1 ≡ counted (λ j. ltb n (q + j) && leb (q + j) (p.contig_len + n)) (from 0 (2 * n + 1))
+    go : (n : ℕ) → min p.contig_len (q + n) - max 1 (q - n) + 1 ≡ count_by (λ j. ltb n (q + j) && leb (q + j) (p.contig_len + n)) (from 0 (2 * n + 1))
     go n =
         let e₁ : min (p.contig_len + n + 1) (q + 0 + (2 * n + 1)) ≡ min p.contig_len (q + n) + (n + 1) = omega arith in
         let e₂ : max (n + 1) (q + 0) ≡ max 1 (q - n) + n = omega arith in

@@ -1,5 +1,6 @@
 -- 01, Adding a locus.
-use Rattle.std.specs.Prelude.{Bool, not, ◌&&◌, ◌||◌, cond, List, [], ◌∷◌, ℕ, zero, suc, ◌+◌, ◌-◌, ◌*◌, min, max, leb, ltb, eqb, length, Float, Result, Ok, Err}
+use Rattle.std.specs.Prelude.{Bool, not, ◌&&◌, ◌||◌, cond, List, ℕ, zero, suc, ◌+◌, ◌-◌, ◌*◌, min, max, leb, ltb, eqb, length, Float, Result, Ok, Err}
+use Rattle.std.specs.List.{count_by}
 use Rattle.std.specs.Float.{binary64}
 use Rattle.std.specs.Float.Ieee.{add, mul, lt}
 use Rattle.lists.specs.Each.{each}
@@ -22,18 +23,13 @@ at s = s.pos.0
 
 -- ---- what a position receives
 
--- how many of a list pass a test
-abbrev pub counted : (ℕ → Bool) → List ℕ → ℕ
-counted f [] = 0
-counted f (x ∷ xs) = cond (f x) (suc (counted f xs)) (counted f xs)
-
 -- "The number m of super states is 1 for plain evidence. For clips it is the number of offsets d from −n to n, n = min(clip count, D), with
 -- p + d in 1 to L": q is p, and j is d + n
 unfoldable pub super_states : BandPassActivityProfile → ℕ → ActivityEvidence → ℕ
 super_states p q Plain = 1
 super_states p q (HighQualitySoftClips clips) =
     let n = min clips (D p) in
-    counted (λ j. ltb n (q + j) && leb (q + j) (p.contig_len + n)) (from 0 (2 * n + 1))
+    count_by (λ j. ltb n (q + j) && leb (q + j) (p.contig_len + n)) (from 0 (2 * n + 1))
 
 -- "w .., added to itself m − 1 times, left to right"
 unfoldable pub times : ℕ → Float → Float
