@@ -41,6 +41,9 @@ pub fn add_verdict(
     Ok(())
 }
 
+// The functions below take the record and the state as two arguments, as the public ones do: a struct of both would be made by each
+// caller and taken apart at each field.
+
 // Refusal 5 of an add: the record is broken, or the kernel is not 2F + 1 long.
 fn is_broken_add(p: BandPassActivityProfile, cells: usize, kernel: usize) -> bool
     ensures { result ≡ broken_add p cells kernel }

@@ -138,7 +138,8 @@ pub fn kernel_in<'a>(buffer: &'a [f64], filter_size: u32) -> &'a [f64]
     &buffer[..n]
 }
 
-// Copies a kernel to the front of a slice, and answers its length. A slice that is too short is left as it is, and the answer is 0.
+// Copies a kernel to the front of a slice, and answers its length. A slice that is too short is left as it is, and the answer is 0:
+// a number and no Option, since the clause `value` promises it.
 #[tactic(auto, using(std::proofs::lemmas::Bool::Decides::nat_tests), unfolding(crate::specs::Resolve::copied))]
 pub fn copy_kernel(to: &mut [f64], kernel: &[f64]) -> usize
     ensures value { result ≡ copied_length (length kernel.now) (length to.old) }

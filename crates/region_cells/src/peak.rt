@@ -16,7 +16,8 @@ pub fn peak_index(cells: &[f64]) -> usize
     after_turns(cells, 4 * fours + 1, cells.len(), leader)
 }
 
-// The leader once cells i to i + 3 had their turns.
+// The leader once cells i to i + 3 had their turns. The cells, the place and the leader are arguments: a struct of them, with an invariant,
+// would be made anew at each turn.
 fn after_four(cells: &[f64], i: usize, leader: usize) -> usize
     requires { (leader < i) × (i + 4 ≤ length cells.now) }
     ensures { (result ≡ along (leads cells.now) i 4 leader) × (result < i + 4) }
