@@ -20,63 +20,74 @@ pub fn stream(form: Form, words: &[u64], tables: &StreamTables) -> bool {
         compared: Compared::from(words, results),
         text: [0; BLOCK],
         memory: StreamMemory::new(),
+        tables,
     };
-    replay.items(words, tables);
-    replay.end(word_at(words, 1) != 0, tables);
+    replay.items();
+    replay.end();
     replay.compared.whole() & ends_at(words, results, word_at(words, length))
 }
 
-// The run, how far what it printed was compared, and what is lent to the run.
+// The run, the words of the answer and how far what it printed was compared with them, and what is lent to the run.
 #[derive(Drop)]
 struct Replay<'a> {
     run: RegionRun,
     compared: Compared<'a>,
     text: [u8; BLOCK],
     memory: StreamMemory,
+    tables: &'a StreamTables,
 }
 
 impl Replay<'_> {
-    fn items(&mut self, words: &[u64], tables: &StreamTables) {
+    fn items(&mut self) {
+        let words = self.compared.words;
         let mut at = 2;
         for _ in 0..count_of(words) {
-            self.item(words, at, tables);
+            self.item(at);
             at = behind(words, at);
         }
     }
 
     // The words of an item, so many times.
-    fn item(&mut self, words: &[u64], at: usize, tables: &StreamTables) {
+    fn item(&mut self, at: usize) {
+        let words = self.compared.words;
         let step = number_at(words, wrapping_add_usize(at, 1));
         let mut raise = 0;
         for _ in 0..number_at(words, at) {
             if self.run.over {
                 return;
             }
-            self.group(words, at, raise, tables);
+            self.group(at, raise);
             raise = wrapping_add_u32(raise, step);
         }
     }
 
     // The words of an item once, the first raised.
-    fn group(&mut self, words: &[u64], at: usize, raise: u32, tables: &StreamTables) {
+    fn group(&mut self, at: usize, raise: u32) {
+        let words = self.compared.words;
         let mut place = wrapping_add_usize(at, 3);
         let mut more = raise;
         for _ in 0..number_at(words, wrapping_add_usize(at, 2)) {
             if self.run.over {
                 return;
             }
-            self.word(wrapping_add_u32(number_at(words, place), more), tables);
+            self.word(wrapping_add_u32(number_at(words, place), more));
             more = 0;
             place = wrapping_add_usize(place, 1);
         }
     }
 
     // One word, fed until it is done; what it prints is compared as it comes.
-    fn word(&mut self, w: u32, tables: &StreamTables) {
+    fn word(&mut self, w: u32) {
         let block = [w];
         self.run.at = 0;
         while self.run.at < block.len() {
-            self.run = region_run::feed(self.run, &block, &mut self.text, &mut self.memory, tables);
+            self.run = region_run::feed(
+                self.run,
+                &block,
+                &mut self.text,
+                &mut self.memory,
+                self.tables,
+            );
             self.compare();
             if self.run.over {
                 return;
@@ -85,16 +96,17 @@ impl Replay<'_> {
     }
 
     // The end of the input, where the run is not over.
-    fn end(&mut self, remainder: bool, tables: &StreamTables) {
+    fn end(&mut self) {
         if self.run.over {
             return;
         }
+        let remainder = word_at(self.compared.words, 1) != 0;
         self.run = region_run::end(
             self.run,
             remainder,
             &mut self.text,
             &mut self.memory,
-            tables,
+            self.tables,
         );
         self.compare();
     }
