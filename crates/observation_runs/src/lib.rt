@@ -44,7 +44,8 @@ fn run_length(words: &[u32]) -> usize
         .count()
 }
 
-// The pile with all of the words behind those that it keeps, as far as there is room. Answers how many it keeps.
+// The pile with all of the words behind those that it keeps, as far as there is room. Answers how many it keeps. One by one,
+// and not copied as a slice: what `keep` promises of a pile that is full is said of all of them by that alone.
 fn keep_all(pile: &mut [u32], kept: usize, words: &[u32]) -> usize
     ensures value { result ≡ (kept_all kept pile.old words.now).depth }
     ensures pile_after { pile.new ≡ (kept_all kept pile.old words.now).pile }

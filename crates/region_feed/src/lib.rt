@@ -89,7 +89,8 @@ fn fed_to(stream: RegionStream, at: usize, found: Found) -> Fed
     Fed { stream, at, found }
 }
 
-// What comes of the end of the input, with a remainder of bytes or without: the pile that is open ends, and then the end is acted on.
+// What comes of the end of the input, with a remainder of bytes or without: the pile that is open ends, and then the end is
+// acted on. The answers of the first step are named one by one: an arm for the rest would not tell that they are no `Again`.
 pub fn finish(
     s: RegionStream,
     remainder: bool,

@@ -79,6 +79,7 @@ impl Printing {
     // Feeds the words of a block from the first on, and writes their text, as often as it fills its buffer.
     fn feed<W: Write>(&mut self, words: &[u32], writer: &mut W) -> io::Result<()> {
         self.run.at = 0;
+        // No `for`: the place is the run's own, and a call moves it on by as many words as find room for their text.
         while self.run.at < words.len() {
             let text = &mut self.text;
             let memory = &mut self.memory;

@@ -61,6 +61,7 @@ pub fn feed(
         over: false,
         ..r
     };
+    // No `for`: the place is the run's own, and a step moves it on by a run of words, or not at all.
     while s.at < words.len() {
         if s.used > ROOM {
             return s;

@@ -2,6 +2,10 @@
 // public function has a `requires`.
 //
 // The stream's state goes in by value and comes back. Its memory and the tables that piles are scored by are lent.
+//
+// The functions below `act` ask where the stream stands by a `requires`: a type for each place would hold the same stream,
+// to be taken out of it by each function and put back by most, and so be no plainer. Events that are refused alike have an
+// arm each: one arm for them has a longer proof, which has to tell the events apart again.
 #![tactic(auto)]
 
 ghost use Rattle.std.specs.Prelude.{◌≡◌, ℕ, List, Float};
@@ -124,7 +128,8 @@ fn opened(s: RegionStream, p: BandPassActivityProfile, position: u32) -> RegionS
     }
 }
 
-// A pop before the first locus: there is nothing to hand out, but a size of 0 is refused.
+// A pop before the first locus: there is nothing to hand out, but a size of 0 is refused. Here and in `pop` the value stays
+// a number: the definitions and the laws speak of it, and a value of neither is refused as a word, before anything else.
 fn pop_unmade(s: RegionStream, value: u32) -> Result<Step, RefusedStep>
     requires { s.phase ≡ Settings }
     ensures { (scoring : Scoring) (pile : List ℕ) (kernel cells : List Float)
