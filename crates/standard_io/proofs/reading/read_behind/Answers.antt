@@ -33,6 +33,3 @@ returns-clause-taken g c =
       behind = seam front (block ++ rest) a.from got front_length ∙ ap (λ (l : List ℕ). front ++ l) (take-append-le got block rest fits);
       taken = c.in_ok-got.ensures.ok;
     }
-
-pub returns-clause-ok : goal.returns-clause-ok
-returns-clause-ok g c = (returns-clause-taken g c).words_read
