@@ -31,29 +31,31 @@ pub enum Function {
 // How many functions there are.
 pub const FUNCTIONS: usize = 20;
 
-// All of them, in the order of their numbers.
-pub const ALL: [Function; FUNCTIONS] = [
-    Function::Exp,
-    Function::Ln,
-    Function::Log10,
-    Function::TenTo,
-    Function::LnGamma,
-    Function::NormalDistribution,
-    Function::MakeGaussianKernel,
-    Function::AdaptiveFilterSize,
-    Function::Making,
-    Function::Add,
-    Function::Pop,
-    Function::Run,
-    Function::ClipCount,
-    Function::Score,
-    Function::PairSum,
-    Function::Log10Sum,
-    Function::RegionProgram,
-    Function::Sheet,
-    Function::CellsNeeded,
-    Function::SetScore,
-];
+impl Function {
+    // All of them, in the order of their numbers.
+    pub const ALL: [Function; FUNCTIONS] = [
+        Function::Exp,
+        Function::Ln,
+        Function::Log10,
+        Function::TenTo,
+        Function::LnGamma,
+        Function::NormalDistribution,
+        Function::MakeGaussianKernel,
+        Function::AdaptiveFilterSize,
+        Function::Making,
+        Function::Add,
+        Function::Pop,
+        Function::Run,
+        Function::ClipCount,
+        Function::Score,
+        Function::PairSum,
+        Function::Log10Sum,
+        Function::RegionProgram,
+        Function::Sheet,
+        Function::CellsNeeded,
+        Function::SetScore,
+    ];
+}
 
 // A number that is no function's.
 #[derive(Clone, Copy, Debug, PartialEq, Eq)]

@@ -9,7 +9,7 @@ mod read;
 mod words;
 
 pub use arrays::{doubles_from, filled, length_at};
-pub use functions::{ALL, FUNCTIONS, Function, UnknownFunction};
+pub use functions::{FUNCTIONS, Function, UnknownFunction};
 pub use read::read_answer;
 use std::io;
 pub use words::{double_at, number_at, word_at};

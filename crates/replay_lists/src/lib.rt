@@ -4,7 +4,7 @@
 
 ghost use Rattle.std.specs.Prelude.{◌<◌};
 
-use answer_list::{ALL, FUNCTIONS, Function, ReadError};
+use answer_list::{FUNCTIONS, Function, ReadError};
 use region_print::Form;
 use region_program::StreamTables;
 use std::env::FillError;
@@ -145,7 +145,7 @@ impl Replay {
 
     // A line for each function that the lists had.
     fn report(&self, rt: &impl Print) -> io::Result<()> {
-        for (function, tally) in ALL.iter().zip(&self.tallies) {
+        for (function, tally) in Function::ALL.iter().zip(&self.tallies) {
             tally.print(rt, *function)?;
         }
         self.unknown.print(rt, "unknown or malformed")
