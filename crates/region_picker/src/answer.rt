@@ -1,4 +1,4 @@
-// What the functions answer: 0, or the number of a refusal.
+// What the functions answer: 0, or the number of a refusal (a pop also answers `HELD` and `EMPTY`, and says it itself).
 ghost use Rattle.genome.specs.Refusals.{outcome_of};
 ghost use Rattle.region_picker.specs.Part.{Answers};
 

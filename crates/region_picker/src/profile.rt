@@ -51,23 +51,17 @@ pub fn region_picker_make(
         adaptive_filter_size,
     };
     let made = profile_record::new(contig, contig_len, params, full, narrow);
-    match made {
-        Ok(p) => {
-            *profile = record_of(p);
-            0
-        }
-        Err(why) => why.number(),
-    }
+    write_answer(made.map(record_of), profile)
 }
 
 // Copies the kernel of the profile that a making left in its buffers, 2F + 1 numbers, to the front of `kernel`, and
 // answers 0. Where one of the three slices is too short for it, the answer is 2, and nothing is written.
-pub fn region_picker_kernel<'a>(
+pub fn region_picker_kernel(
     kernel: &mut [f64],
     filter_size: u32,
     max_filter_size: u32,
-    full: &'a [f64],
-    narrow: &'a [f64],
+    full: &[f64],
+    narrow: &[f64],
 ) -> u32
     ensures { Copies filter_size max_filter_size kernel.old kernel.new
         full.now narrow.now result }
@@ -76,6 +70,7 @@ pub fn region_picker_kernel<'a>(
     if (kernel.len() < n) | ((full.len() < n) | (narrow.len() < n)) {
         return Refusal::Buffer.number();
     }
+    // Of these settings only `max_filter_size` is looked at: it says which buffer holds the kernel.
     let params = BandPassActivityProfileParams {
         max_prob_propagation_distance: 0,
         active_prob_threshold: 0.0,
@@ -140,14 +135,8 @@ pub fn region_picker_add(
         original_active_prob,
         evidence,
     };
-    let added = profile_add::add(p, state, kernel, cells);
-    match added {
-        Ok(next) => {
-            *profile = record_of(next);
-            0
-        }
-        Err(refused_add) => refused_add.refusal.number(),
-    }
+    let added = profile_add::add(p, state, kernel, cells).map_err(|refused| refused.refusal);
+    write_answer(added.map(record_of), profile)
 }
 
 // Pops the next region that is ready. Answers 0 with the region and its peak written; `HELD` or `EMPTY`; or the number of
@@ -181,6 +170,7 @@ pub fn region_picker_pop(
         max_region_size,
         forced,
     );
+    // Written out, and not by `write_answer`: a region, `HELD` and `EMPTY` write to different places.
     match popped {
         Ok(Popped::Ready(r, next)) => {
             *region = region_fields(r);
@@ -236,7 +226,7 @@ fn region_fields(r: ActivityProfileRegion) -> [u32; REGION]
         r.contig,
         r.start,
         r.end,
-        r.is_active as u32,
+        u32::from(r.is_active),
         r.padded_start,
         r.padded_end,
         r.extension,

@@ -62,6 +62,7 @@ pub fn region_picker_fill_tables(
         flow_based_reference_model,
     );
     let filling = activity_scoring::fill_tables(table, priors, params);
+    // Written out, and not by `write_answer`: a filling writes its tables itself, and its clause is by `verdict_number`.
     match filling {
         Ok(()) => 0,
         Err(refusal) => refusal.number(),
@@ -165,7 +166,7 @@ pub fn region_picker_score_set(
     write_score(scored, activity, evidence)
 }
 
-// Writes a score's numbers and answers 0, or answers the refusal's number.
+// Writes a score's numbers and answers 0, or answers the refusal's number: `write_answer` with two places.
 fn write_score(
     scored: Result<ActivityProfileState, Refusal>,
     activity: &mut [f64; 2],
@@ -177,8 +178,7 @@ fn write_score(
     match scored {
         Ok(s) => {
             *activity = [s.active_prob, s.original_active_prob];
-            let e = s.evidence;
-            *evidence = evidence_fields(e);
+            *evidence = evidence_fields(s.evidence);
             0
         }
         Err(why) => why.number(),
