@@ -1,5 +1,5 @@
 -- Comparing the results of an answer word by word.
-use Rattle.std.specs.Prelude.{ℕ, ◌+◌, false, cond, ◌&&◌, length, ◌==◌, nat_lt, slice_index, to_bits, Float}
+use Rattle.std.specs.Prelude.{Bool, ℕ, ◌+◌, false, cond, ◌&&◌, length, ◌==◌, nat_lt, slice_index, to_bits, Float}
 use Rattle.std.specs.Float.{binary64}
 use Rattle.answer_list.specs.declared.Compared.{Compared}
 
@@ -10,3 +10,7 @@ with_word c w =
 
 unfoldable pub with_double : Compared → Float → Compared
 with_double c x = with_word c (to_bits binary64 x)
+
+-- a fact that the answer has no word for: where it does not hold, nothing is the same
+unfoldable pub with_fact : Compared → Bool → Compared
+with_fact c holds = record c { same = c.same && holds }

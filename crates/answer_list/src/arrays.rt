@@ -1,25 +1,26 @@
-// Slices of an answer, as arrays with room for 1,024 doubles.
+// Slices of an answer, as arrays with room for 1,024 doubles: memory is fixed, and an answer with a longer slice differs.
 ghost use Rattle.std.specs.Prelude.{◌≡◌, min, slice_index};
 ghost use Rattle.lists.specs.Each.{tabulate};
 ghost use Rattle.answer_list.specs.Arrays.{double_at, pattern_at};
 
 use crate::words::{double_at, word_at};
-use std::num::{f64_from_bits_with_nan, wrapping_add_u64, wrapping_add_usize};
+use std::num::f64_from_bits_with_nan;
 
-// The length in word i, cut to the room that there is; an answer with a longer slice then differs.
+// The length in word i, cut to the room that there is.
 pub fn length_at(words: &[u64], i: usize) -> usize
     ensures { result ≡ min (slice_index words.now i) 1024 }
 {
     word_at(words, i).min(1024) as usize
 }
 
-// The doubles from word `at` on.
+// The doubles from word `at` on. Here and in `filled` a loop: by `std::array::from_fn` the proof of the clause, which is by
+// `tabulate`, did not close.
 pub fn doubles_from(words: &[u64], at: usize) -> [f64; 1024]
     ensures { result ≡ tabulate (double_at words.now at) 1024 }
 {
     let mut into = [0.0f64; 1024];
     for (i, x) in into.iter_mut().enumerate() {
-        *x = double_at(words, wrapping_add_usize(at, i));
+        *x = double_at(words, at.wrapping_add(i));
     }
     into
 }
@@ -30,7 +31,7 @@ pub fn filled(first: u64) -> [f64; 1024]
 {
     let mut into = [0.0f64; 1024];
     for (i, x) in into.iter_mut().enumerate() {
-        *x = f64_from_bits_with_nan(wrapping_add_u64(first, i as u64));
+        *x = f64_from_bits_with_nan(first.wrapping_add(i as u64));
     }
     into
 }

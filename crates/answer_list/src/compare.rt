@@ -1,14 +1,14 @@
 // Comparing results with the words of an answer, from a place on.
 ghost use Rattle.std.specs.Prelude.{◌≡◌, true, ◌&&◌, length, ◌==◌};
 ghost use Rattle.std.specs.List.{fold};
-ghost use Rattle.answer_list.specs.Compare.{with_word, with_double};
+ghost use Rattle.answer_list.specs.Compare.{with_word, with_double, with_fact};
 
 use crate::Compared;
 use std::num::f64_to_bits_with_nan;
 
 impl<'a> Compared<'a> {
     // Nothing compared yet; the results start at `at`.
-    pub fn from(words: &'a [u64], at: usize) -> Compared<'a>
+    pub fn starting(words: &'a [u64], at: usize) -> Compared<'a>
         ensures { result ≡ record { words = words.entry; at = at; same = true } }
     {
         Compared {
@@ -50,6 +50,17 @@ impl<'a> Compared<'a> {
         ensures { result ≡ fold with_double self.entry xs.now }
     {
         xs.iter().fold(self, |c, x| c.double(*x))
+    }
+
+    // With a fact compared that the answer has no word for: it has to hold.
+    #[tactic(auto, unfolding(crate::specs::Compare::with_fact))]
+    pub fn fact(self, holds: bool) -> Compared<'a>
+        ensures { result ≡ with_fact self.entry holds }
+    {
+        Compared {
+            same: self.same & holds,
+            ..self
+        }
     }
 
     // Whether all were the same and no word is left.

@@ -57,7 +57,7 @@ impl Function {
     ];
 }
 
-// A number that is no function's.
+// A number that is no function's. It is counted, and printed nowhere, so it has no `Display`.
 #[derive(Clone, Copy, Debug, PartialEq, Eq)]
 pub struct UnknownFunction;
 
@@ -67,6 +67,7 @@ impl TryFrom<u64> for Function {
     ghost try_from_gives = { NamesFunction };
 
     fn try_from(number: u64) -> Result<Function, UnknownFunction> {
+        // A `match`, and no search of `ALL`: in each arm the law `NamesFunction` computes; by `find` its proof did not close.
         match number {
             1 => Ok(Function::Exp),
             2 => Ok(Function::Ln),

@@ -14,14 +14,15 @@ pub use read::read_answer;
 use std::io;
 pub use words::{double_at, number_at, word_at};
 
-// An answer: a function's number, and how many words of arguments and results now stand at the front of the lent slice.
+// An answer: a function's number, and how many words of arguments and results now stand at the front of the lent slice. The
+// number stays one, since a list may have any; the words stay with the caller, since the clause `FitsIn` speaks of the count.
 #[derive(Clone, Copy, Debug)]
 pub struct Answer {
     pub function: u64,
     pub count: usize,
 }
 
-// Why an answer could not be read.
+// Why an answer could not be read. It has no `Display`: a malformed list is counted, and what a read says is handed on.
 #[derive(Debug, Drop)]
 pub enum ReadError {
     // A read failed.
@@ -38,7 +39,7 @@ impl From<io::Error> for ReadError {
 
 // The words of an answer, how far its results have been compared, and whether all so far were the same. The place is told
 // where they differ too, since the arguments of the next call of a run stand behind it.
-#[derive(Clone, Copy)]
+#[derive(Clone, Copy, Debug)]
 pub struct Compared<'a> {
     pub words: &'a [u64],
     pub at: usize,

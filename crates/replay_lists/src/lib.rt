@@ -9,7 +9,6 @@ use region_print::Form;
 use region_program::StreamTables;
 use std::env::FillError;
 use std::io::Read;
-use std::num::wrapping_add_u64;
 use std::rt::{Env, Files};
 use std::{fmt, fs, io};
 
@@ -50,8 +49,8 @@ impl Tally {
     };
 
     fn count(&mut self, agrees: bool) {
-        self.asked = wrapping_add_u64(self.asked, 1);
-        self.agreed = wrapping_add_u64(self.agreed, u64::from(agrees));
+        self.asked = self.asked.wrapping_add(1);
+        self.agreed = self.agreed.wrapping_add(u64::from(agrees));
     }
 
     // "NAME: AGREED of ASKED agree", where any were asked.

@@ -9,7 +9,7 @@ pub(crate) fn cells_needed(words: &[u64]) -> bool {
         number_at(words, 2),
         number_at(words, 3),
     );
-    let c = Compared::from(words, 4);
+    let c = Compared::starting(words, 4);
     match needed {
         Ok(n) => c.word(0).word(u64::from(n)).whole(),
         Err(why) => c.word(u64::from(why.number())).whole(),

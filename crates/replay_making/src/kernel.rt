@@ -14,7 +14,7 @@ pub(crate) fn normal_distribution(words: &[u64]) -> bool {
         double_at(words, 1),
         double_at(words, 2),
     );
-    Compared::from(words, 3).double(r).whole()
+    Compared::starting(words, 3).double(r).whole()
 }
 
 // filter size, sigma, length; the entries.
@@ -22,7 +22,7 @@ pub(crate) fn make_gaussian_kernel(words: &[u64]) -> bool {
     let mut room = [0.0f64; 1024];
     let kernel = &mut room[..length_at(words, 2)];
     band_pass_kernel::make_gaussian_kernel(kernel, number_at(words, 0), double_at(words, 1));
-    Compared::from(words, 3).doubles(kernel).whole()
+    Compared::starting(words, 3).doubles(kernel).whole()
 }
 
 // least, length, entries; the size.
@@ -30,7 +30,7 @@ pub(crate) fn adaptive_filter_size(words: &[u64]) -> bool {
     let n = length_at(words, 1);
     let kernel = doubles_from(words, 2);
     let r = band_pass_kernel::adaptive_filter_size(&kernel[..n], double_at(words, 0));
-    Compared::from(words, 2 + n).word(r as u64).whole()
+    Compared::starting(words, 2 + n).word(r as u64).whole()
 }
 
 // contig, contig length, distance, threshold, max filter, sigma, adaptive, fill, the two buffers' lengths; the refusal's number or 0;
@@ -48,7 +48,7 @@ pub(crate) fn making(words: &[u64]) -> bool {
         full,
         narrow,
     );
-    let c = Compared::from(words, 10);
+    let c = Compared::starting(words, 10);
     let compared = match made {
         Ok(p) => with_profile(c, p, params, full, narrow),
         Err(why) => c.word(u64::from(why.number())),
@@ -56,7 +56,8 @@ pub(crate) fn making(words: &[u64]) -> bool {
     compared.doubles(full).doubles(narrow).whole()
 }
 
-// With the record that was made compared, which is as the words ask and empty, and its kernel.
+// With the record that was made compared, which is as the words ask and empty, and its kernel. Field by field, and not by a
+// derived equality: the threshold is compared by its bits, so that NaN is the same as NaN.
 fn with_profile<'a>(
     c: Compared<'a>,
     p: BandPassActivityProfile,
@@ -73,14 +74,11 @@ fn with_profile<'a>(
         & (p.region_start == 0)
         & (p.last_input_pos == 0)
         & (p.count == 0);
-    Compared {
-        same: c.same & fresh,
-        ..c
-    }
-    .word(0)
-    .word(u64::from(p.filter_size))
-    .word(kernel.len() as u64)
-    .doubles(kernel)
+    c.fact(fresh)
+        .word(0)
+        .word(u64::from(p.filter_size))
+        .word(kernel.len() as u64)
+        .doubles(kernel)
 }
 
 // distance, threshold, max filter, sigma and adaptive, from word 2 on.

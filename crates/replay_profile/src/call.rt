@@ -5,7 +5,6 @@ use activity_profile::{
 };
 use answer_list::{Compared, double_at, doubles_from, length_at, number_at, word_at};
 use genome::GenomePosition;
-use std::num::wrapping_add_usize;
 
 // record, state, k, kernel[k], n, cells[n]; the refusal's number or 0, record, cells[n].
 pub(crate) fn add(words: &[u64]) -> bool {
@@ -15,7 +14,7 @@ pub(crate) fn add(words: &[u64]) -> bool {
     let mut room = doubles_from(words, 15 + k);
     let cells = &mut room[..n];
     let added = profile_add::add(record_at(words, 0), state_at(words, 8), &kernel[..k], cells);
-    let (c, p) = with_added(Compared::from(words, 15 + k + n), added);
+    let (c, p) = with_added(Compared::starting(words, 15 + k + n), added);
     with_record(c, p).doubles(cells).whole()
 }
 
@@ -36,7 +35,7 @@ pub(crate) fn pop(words: &[u64]) -> bool {
     let mut room = doubles_from(words, 13);
     let cells = &mut room[..n];
     let popped = pop_at(words, 8, record_at(words, 0), cells);
-    let (c, p) = with_popped(Compared::from(words, 13 + n), popped);
+    let (c, p) = with_popped(Compared::starting(words, 13 + n), popped);
     with_record(c, p).doubles(cells).whole()
 }
 
@@ -51,9 +50,9 @@ pub(crate) fn pop_at(
         p,
         cells,
         number_at(words, at),
-        number_at(words, wrapping_add_usize(at, 1)),
-        number_at(words, wrapping_add_usize(at, 2)),
-        word_at(words, wrapping_add_usize(at, 3)) == 1,
+        number_at(words, at.wrapping_add(1)),
+        number_at(words, at.wrapping_add(2)),
+        word_at(words, at.wrapping_add(3)) == 1,
     )
 }
 
@@ -100,13 +99,13 @@ fn with_record<'a>(c: Compared<'a>, p: BandPassActivityProfile) -> Compared<'a> 
 fn record_at(words: &[u64], at: usize) -> BandPassActivityProfile {
     BandPassActivityProfile {
         contig: number_at(words, at),
-        contig_len: number_at(words, wrapping_add_usize(at, 1)),
-        max_prob_propagation_distance: number_at(words, wrapping_add_usize(at, 2)),
-        active_prob_threshold: double_at(words, wrapping_add_usize(at, 3)),
-        filter_size: number_at(words, wrapping_add_usize(at, 4)),
-        region_start: number_at(words, wrapping_add_usize(at, 5)),
-        last_input_pos: number_at(words, wrapping_add_usize(at, 6)),
-        count: number_at(words, wrapping_add_usize(at, 7)),
+        contig_len: number_at(words, at.wrapping_add(1)),
+        max_prob_propagation_distance: number_at(words, at.wrapping_add(2)),
+        active_prob_threshold: double_at(words, at.wrapping_add(3)),
+        filter_size: number_at(words, at.wrapping_add(4)),
+        region_start: number_at(words, at.wrapping_add(5)),
+        last_input_pos: number_at(words, at.wrapping_add(6)),
+        count: number_at(words, at.wrapping_add(7)),
     }
 }
 
@@ -114,10 +113,10 @@ fn record_at(words: &[u64], at: usize) -> BandPassActivityProfile {
 pub(crate) fn state_at(words: &[u64], at: usize) -> ActivityProfileState {
     ActivityProfileState {
         contig: number_at(words, at),
-        pos: GenomePosition(number_at(words, wrapping_add_usize(at, 1))),
-        active_prob: double_at(words, wrapping_add_usize(at, 2)),
-        original_active_prob: double_at(words, wrapping_add_usize(at, 3)),
-        evidence: evidence_of(word_at(words, wrapping_add_usize(at, 4))),
+        pos: GenomePosition(number_at(words, at.wrapping_add(1))),
+        active_prob: double_at(words, at.wrapping_add(2)),
+        original_active_prob: double_at(words, at.wrapping_add(3)),
+        evidence: evidence_of(word_at(words, at.wrapping_add(4))),
     }
 }
 

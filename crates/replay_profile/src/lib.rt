@@ -5,19 +5,27 @@
 mod call;
 mod run;
 
+ghost use Rattle.answer_list.specs.Functions.{function_number};
 ghost use Rattle.std.specs.Prelude.{◌≡◌, ◌≤◌, true};
 
 use answer_list::Function;
 
 // Whether the library's results are those of the answer; true of these functions alone. The function is given by its
-// number, since any number has an answer here, also one that is no function's.
+// number: the clause says of every number that it is one of these where the answer is true, also of one that is no function's.
 pub fn replay(function: u64, words: &[u64]) -> bool
     ensures { result ≡ true → (10 ≤ function) × (function ≤ 12) }
 {
-    let Ok(asked) = Function::try_from(function) else {
-        return false;
-    };
-    match asked {
+    match Function::try_from(function) {
+        Ok(asked) => agrees(asked, words),
+        Err(_) => false,
+    }
+}
+
+// Whether the library's results are those of an answer of that function; true of these functions alone.
+pub fn agrees(function: Function, words: &[u64]) -> bool
+    ensures { result ≡ true → (10 ≤ function_number function) × (function_number function ≤ 12) }
+{
+    match function {
         Function::Add => call::add(words),
         Function::Pop => call::pop(words),
         Function::Run => run::run(words),

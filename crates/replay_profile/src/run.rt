@@ -2,7 +2,6 @@
 use crate::call;
 use activity_profile::BandPassActivityProfile;
 use answer_list::{Compared, filled, length_at, number_at, word_at};
-use std::num::wrapping_add_usize;
 
 // contig, contig length, distance, threshold, max filter, sigma, adaptive, fill, n, how many calls; then each call.
 pub(crate) fn run(words: &[u64]) -> bool {
@@ -26,7 +25,7 @@ pub(crate) fn run(words: &[u64]) -> bool {
 
 // The calls, from word 10 on.
 fn run_calls(words: &[u64], p: BandPassActivityProfile, kernel: &[f64], cells: &mut [f64]) -> bool {
-    let mut c = Compared::from(words, 10);
+    let mut c = Compared::starting(words, 10);
     let mut profile = p;
     for _ in 0..word_at(words, 9) {
         (c, profile) = with_call(c, profile, kernel, cells);
@@ -43,7 +42,7 @@ fn with_call<'a>(
     cells: &mut [f64],
 ) -> (Compared<'a>, BandPassActivityProfile) {
     let words = c.words;
-    let arguments = wrapping_add_usize(c.at, 1);
+    let arguments = c.at.wrapping_add(1);
     let (called, after) = if word_at(words, c.at) == 0 {
         let added = profile_add::add(p, call::state_at(words, arguments), kernel, cells);
         call::with_added(behind(c, 6), added)
@@ -62,7 +61,7 @@ fn with_call<'a>(
 // Past n words, which are arguments.
 fn behind<'a>(c: Compared<'a>, n: usize) -> Compared<'a> {
     Compared {
-        at: wrapping_add_usize(c.at, n),
+        at: c.at.wrapping_add(n),
         ..c
     }
 }

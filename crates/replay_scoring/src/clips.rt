@@ -1,6 +1,5 @@
 // Soft-clip counts.
 use answer_list::{Compared, length_at, number_at, word_at};
-use std::num::wrapping_add_usize;
 
 // k, cigar[k], n, qualities[n]; the refusal's number or 0, and where 0 the count.
 pub(crate) fn clip_count(words: &[u64]) -> bool {
@@ -9,7 +8,7 @@ pub(crate) fn clip_count(words: &[u64]) -> bool {
     let n = length_at(words, 1 + k);
     let qualities = bytes_from(words, 2 + k);
     let found = hq_soft_clip::count_high_quality_soft_clip_bases_rcm(&cigar[..k], &qualities[..n]);
-    let c = Compared::from(words, 2 + k + n);
+    let c = Compared::starting(words, 2 + k + n);
     match found {
         Ok(count) => c.word(0).word(count).whole(),
         Err(why) => c.word(u64::from(why.number())).whole(),
@@ -18,12 +17,12 @@ pub(crate) fn clip_count(words: &[u64]) -> bool {
 
 // The 32-bit numbers from word `at` on.
 pub(crate) fn numbers_from(words: &[u64], at: usize) -> [u32; 1024] {
-    std::array::from_fn(|i| number_at(words, wrapping_add_usize(at, i)))
+    std::array::from_fn(|i| number_at(words, at.wrapping_add(i)))
 }
 
 // The bytes from word `at` on.
 fn bytes_from(words: &[u64], at: usize) -> [u8; 1024] {
-    std::array::from_fn(|i| byte_at(words, wrapping_add_usize(at, i)))
+    std::array::from_fn(|i| byte_at(words, at.wrapping_add(i)))
 }
 
 // The low byte of word i.

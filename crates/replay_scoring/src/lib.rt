@@ -6,19 +6,27 @@ mod clips;
 mod scores;
 mod sums;
 
+ghost use Rattle.answer_list.specs.Functions.{function_number};
 ghost use Rattle.std.specs.Prelude.{◌≡◌, ◌≤◌, true, ◌⊎◌};
 
 use answer_list::Function;
 
 // Whether the library's results are those of the answer; true of these functions alone. The function is given by its
-// number, since any number has an answer here, also one that is no function's.
+// number: the clause says of every number that it is one of these where the answer is true, also of one that is no function's.
 pub fn replay(function: u64, words: &[u64]) -> bool
     ensures { result ≡ true → ((13 ≤ function) × (function ≤ 16)) ⊎ (function ≡ 20) }
 {
-    let Ok(asked) = Function::try_from(function) else {
-        return false;
-    };
-    match asked {
+    match Function::try_from(function) {
+        Ok(asked) => agrees(asked, words),
+        Err(_) => false,
+    }
+}
+
+// Whether the library's results are those of an answer of that function; true of these functions alone.
+pub fn agrees(function: Function, words: &[u64]) -> bool
+    ensures { result ≡ true → ((13 ≤ function_number function) × (function_number function ≤ 16)) ⊎ (function_number function ≡ 20) }
+{
+    match function {
         Function::ClipCount => clips::clip_count(words),
         Function::Score => scores::score(words),
         Function::PairSum => sums::pair_sum(words),

@@ -6,7 +6,6 @@ use activity_profile::{ActivityEvidence, ActivityProfileState};
 use answer_list::{Compared, double_at, length_at, number_at, word_at};
 use genome::{GenomePosition, Ploidy, Refusal};
 use genotype_likelihoods::HaplotypeCallerActivityScoringParams;
-use std::num::wrapping_add_usize;
 
 // contig, position, min base quality, ploidy, heterozygosity, deviation, deletion quality, alt multiplier, flow, depth,
 // k, words[k]; the refusal's number or 0, and where 0 probability, original probability and evidence. Word i of the pile
@@ -21,7 +20,7 @@ pub(crate) fn score(words: &[u64]) -> bool {
         &run[..n],
         params_at(words),
     );
-    is_as_scored(Compared::from(words, 11 + k), scored)
+    is_as_scored(Compared::starting(words, 11 + k), scored)
 }
 
 // As a score: contig, position, the settings, how many words the run has, k, words[k]; then m, lengths[m]; and its results.
@@ -38,7 +37,7 @@ pub(crate) fn score_set(words: &[u64]) -> bool {
         &lengths[..m],
         params_at(words),
     );
-    is_as_scored(Compared::from(words, 12 + k + m), scored)
+    is_as_scored(Compared::starting(words, 12 + k + m), scored)
 }
 
 // Whether the results are those of a score, whose state has the contig and the position that the call was given.
@@ -47,15 +46,12 @@ fn is_as_scored(c: Compared, scored: Result<ActivityProfileState, Refusal>) -> b
         Ok(s) => {
             let words = c.words;
             let given = (s.contig == number_at(words, 0)) & (s.pos.0 == number_at(words, 1));
-            Compared {
-                same: c.same & given,
-                ..c
-            }
-            .word(0)
-            .double(s.active_prob)
-            .double(s.original_active_prob)
-            .word(evidence(s.evidence))
-            .whole()
+            c.fact(given)
+                .word(0)
+                .double(s.active_prob)
+                .double(s.original_active_prob)
+                .word(evidence(s.evidence))
+                .whole()
         }
         Err(why) => c.word(u64::from(why.number())).whole(),
     }
@@ -95,17 +91,10 @@ fn depth_at(words: &[u64], i: usize) -> usize
 fn run_from(words: &[u64], at: usize, k: usize, n: usize) -> [u32; RUN]
     requires { n ≤ 65536 }
 {
+    let round = k.max(1);
     let mut run = [0u32; RUN];
-    let mut j = 0;
-    for w in run[..n].iter_mut() {
-        *w = number_at(words, wrapping_add_usize(at, j));
-        j = next(j, k);
+    for (j, w) in run[..n].iter_mut().enumerate() {
+        *w = number_at(words, at.wrapping_add(j % round));
     }
     run
-}
-
-// The place after j in a round of k.
-fn next(j: usize, k: usize) -> usize {
-    let after = wrapping_add_usize(j, 1);
-    if after < k { after } else { 0 }
 }

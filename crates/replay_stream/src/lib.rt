@@ -9,15 +9,14 @@ use answer_list::{Compared, number_at, word_at};
 use region_print::Form;
 use region_program::{StreamMemory, StreamTables};
 use region_run::{BLOCK, RegionRun};
-use std::num::{wrapping_add_u32, wrapping_add_u64, wrapping_add_usize};
 
 // Whether a run over the items, and then to the end of the input, prints what the answer has.
 pub fn stream(form: Form, words: &[u64], tables: &StreamTables) -> bool {
     let length = text_of(words);
-    let results = wrapping_add_usize(length, 1);
+    let results = length.wrapping_add(1);
     let mut replay = Replay {
         run: region_run::start(form),
-        compared: Compared::from(words, results),
+        compared: Compared::starting(words, results),
         text: [0; BLOCK],
         memory: StreamMemory::new(),
         tables,
@@ -50,29 +49,29 @@ impl Replay<'_> {
     // The words of an item, so many times.
     fn item(&mut self, at: usize) {
         let words = self.compared.words;
-        let step = number_at(words, wrapping_add_usize(at, 1));
+        let step = number_at(words, at.wrapping_add(1));
         let mut raise = 0;
         for _ in 0..number_at(words, at) {
             if self.run.over {
                 return;
             }
             self.group(at, raise);
-            raise = wrapping_add_u32(raise, step);
+            raise = raise.wrapping_add(step);
         }
     }
 
     // The words of an item once, the first raised.
     fn group(&mut self, at: usize, raise: u32) {
         let words = self.compared.words;
-        let mut place = wrapping_add_usize(at, 3);
+        let mut place = at.wrapping_add(3);
         let mut more = raise;
-        for _ in 0..number_at(words, wrapping_add_usize(at, 2)) {
+        for _ in 0..number_at(words, at.wrapping_add(2)) {
             if self.run.over {
                 return;
             }
-            self.word(wrapping_add_u32(number_at(words, place), more));
+            self.word(number_at(words, place).wrapping_add(more));
             more = 0;
-            place = wrapping_add_usize(place, 1);
+            place = place.wrapping_add(1);
         }
     }
 
@@ -124,7 +123,7 @@ impl Replay<'_> {
 
 // Whether so many words stand from `from` on.
 fn ends_at(words: &[u64], from: usize, count: u64) -> bool {
-    wrapping_add_u64(from as u64, count) == words.len() as u64
+    (from as u64).wrapping_add(count) == words.len() as u64
 }
 
 // How many items there are; an answer has more words than items.
@@ -145,6 +144,6 @@ fn text_of(words: &[u64]) -> usize {
 
 // The word behind the item at `at`: times, step, how many words, the words.
 fn behind(words: &[u64], at: usize) -> usize {
-    let n = number_at(words, wrapping_add_usize(at, 2));
-    wrapping_add_usize(at, wrapping_add_usize(3, n as usize))
+    let n = number_at(words, at.wrapping_add(2));
+    at.wrapping_add(3).wrapping_add(n as usize)
 }

@@ -12,7 +12,7 @@ pub loop-i-preserved : goal.loop-i-preserved
 unfolding double_at
 loop-i-preserved c =
     let a = c.args in
-    up_to_put (fixed (double_at a.words.now a.at)) c.loop-i.i _ _ nan _ c.loop-i.invariant (omega arith) (simp (c.double_at.ensures, c.wrapping_add_usize.ensures.value))
+    up_to_put (fixed (double_at a.words.now a.at)) c.loop-i.i _ _ nan _ c.loop-i.invariant (omega arith) (simp c.double_at.ensures)
 
 pub returns : goal.returns
 returns c =

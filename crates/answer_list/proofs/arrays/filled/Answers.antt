@@ -12,7 +12,7 @@ pub loop-i-preserved : goal.loop-i-preserved
 unfolding pattern_at
 loop-i-preserved c =
     let a = c.args in
-    up_to_put (fixed (pattern_at a.first)) c.loop-i.i _ _ nan _ c.loop-i.invariant (omega arith) (simp (c.f64_from_bits_with_nan.ensures, c.wrapping_add_u64.ensures.value))
+    up_to_put (fixed (pattern_at a.first)) c.loop-i.i _ _ nan _ c.loop-i.invariant (omega arith) (simp c.f64_from_bits_with_nan.ensures)
 
 pub returns : goal.returns
 returns c =
