@@ -15,7 +15,8 @@ use std::{fmt, fs, io};
 // The words of the longest answer.
 const ANSWER: usize = 16384;
 
-// The most answers of a list that are read.
+// The most answers of a list that are read. What stands behind them is not looked at: what the programs do with a longer list
+// is kept.
 const ANSWERS: u64 = 1000000000;
 
 // The bytes of the longest name that the system opens, with the 0 behind it.
@@ -25,6 +26,7 @@ const NAME: usize = 4096;
 pub fn replay_arguments<R: Env + Files + Print + Eprint>(rt: &R) -> io::Result<()> {
     let mut replay = Replay::new();
     let mut name = [0u8; NAME];
+    // By place, into lent memory: std's `args` gives strings, and no heap is used.
     for i in 1..usize::MAX {
         match rt.arg(i, &mut name) {
             Ok(n) => replay.file(rt, &name[..n])?,
@@ -118,7 +120,7 @@ impl Replay {
     fn answer(&mut self, number: u64, words: &[u64]) {
         match Function::try_from(number) {
             Ok(function) => {
-                let agrees = self.agrees(function, number, words);
+                let agrees = self.agrees(function, words);
                 self.tallies[place_of(function)].count(agrees);
             }
             Err(_) => self.unknown.count(false),
@@ -126,19 +128,21 @@ impl Replay {
     }
 
     // Whether the library's results are those of the answer.
-    fn agrees(&self, function: Function, number: u64, words: &[u64]) -> bool {
+    fn agrees(&self, function: Function, words: &[u64]) -> bool {
         match function {
             Function::RegionProgram => replay_stream::stream(Form::Listing, words, &self.tables),
             Function::Sheet => {
                 replay_stream::stream(Form::Sheet { rows: 0 }, words, &self.tables)
             }
-            Function::Add | Function::Pop | Function::Run => replay_profile::replay(number, words),
+            Function::Add | Function::Pop | Function::Run => replay_profile::agrees(
+                function, words,
+            ),
             Function::ClipCount
             | Function::Score
             | Function::PairSum
             | Function::Log10Sum
-            | Function::SetScore => replay_scoring::replay(number, words),
-            _ => replay_making::replay(number, words),
+            | Function::SetScore => replay_scoring::agrees(function, words),
+            _ => replay_making::agrees(function, words),
         }
     }
 

@@ -125,6 +125,6 @@ fn evidence_of(w: u64) -> ActivityEvidence {
         return ActivityEvidence::Plain;
     }
     ActivityEvidence::HighQualitySoftClips {
-        clip_bases: ((w - 1) % 4294967296) as u32,
+        clip_bases: ((w - 1) % 0x1_0000_0000) as u32,
     }
 }

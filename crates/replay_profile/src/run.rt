@@ -3,11 +3,14 @@ use crate::call;
 use activity_profile::BandPassActivityProfile;
 use answer_list::{Compared, filled, length_at, number_at, word_at};
 
+// Room for the kernel of a run; a run whose kernel needs more differs.
+const KERNEL: usize = 64;
+
 // contig, contig length, distance, threshold, max filter, sigma, adaptive, fill, n, how many calls; then each call.
 pub(crate) fn run(words: &[u64]) -> bool {
     let params = replay_making::params_of(words);
-    let mut full = [0.0f64; 64];
-    let mut narrow = [0.0f64; 64];
+    let mut full = [0.0f64; KERNEL];
+    let mut narrow = [0.0f64; KERNEL];
     let made = profile_record::new(
         number_at(words, 0),
         number_at(words, 1),

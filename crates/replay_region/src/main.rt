@@ -1,4 +1,5 @@
-// Replays the oracle's lists of answers of the region program: the files that the arguments name (docs/LISTS.md).
+// Replays the lists of answers that its arguments name, whatever functions they are of (docs/LISTS.md). Its data are the oracle's
+// lists of the region program; replay is the same program over those of single calls and of runs of adds and pops.
 #![tactic(auto)]
 
 use std::io;

@@ -37,6 +37,7 @@ struct Replay<'a> {
 }
 
 impl Replay<'_> {
+    // The items, one behind the other: where one begins is known from the one before it alone.
     fn items(&mut self) {
         let words = self.compared.words;
         let mut at = 2;
@@ -63,19 +64,18 @@ impl Replay<'_> {
     // The words of an item once, the first raised.
     fn group(&mut self, at: usize, raise: u32) {
         let words = self.compared.words;
-        let mut place = at.wrapping_add(3);
-        let mut more = raise;
-        for _ in 0..number_at(words, at.wrapping_add(2)) {
+        let first = at.wrapping_add(3);
+        for k in 0..number_at(words, at.wrapping_add(2)) as usize {
             if self.run.over {
                 return;
             }
-            self.word(number_at(words, place).wrapping_add(more));
-            more = 0;
-            place = place.wrapping_add(1);
+            let w = number_at(words, first.wrapping_add(k));
+            self.word(if k == 0 { w.wrapping_add(raise) } else { w });
         }
     }
 
-    // One word, fed until it is done; what it prints is compared as it comes.
+    // One word, fed until it is done; what it prints is compared as it comes. A `while`, since a call says how far it came, and
+    // need not have come to the end of the word.
     fn word(&mut self, w: u32) {
         let block = [w];
         self.run.at = 0;
@@ -135,11 +135,7 @@ fn count_of(words: &[u64]) -> usize
 
 // The word behind the items: the length of what is printed.
 fn text_of(words: &[u64]) -> usize {
-    let mut at = 2;
-    for _ in 0..count_of(words) {
-        at = behind(words, at);
-    }
-    at
+    (0..count_of(words)).fold(2, |at, _| behind(words, at))
 }
 
 // The word behind the item at `at`: times, step, how many words, the words.
