@@ -1,7 +1,8 @@
 // The region program but for reading and writing, document 01's chapter of that name: one event in, one answer out. No
 // public function has a `requires`.
 //
-// The stream's state goes in by value and comes back. Its memory and the tables that piles are scored by are lent.
+// The stream's state goes in by value and comes back. Its memory and the tables that piles are scored by are lent, as two
+// structs and not as one: tables are filled once and read by many streams, as replay_lists does, and memory is a stream's own.
 //
 // The functions below `act` ask where the stream stands by a `requires`: a type for each place would hold the same stream,
 // to be taken out of it by each function and put back by most, and so be no plainer. Events that are refused alike have an
@@ -12,8 +13,9 @@ ghost use Rattle.std.specs.Prelude.{◌≡◌, ℕ, List, Float};
 ghost use Rattle.pileup_words.specs.declared.StreamEvent.TheVariants.{Locus, Observation, Pop, Setting as SettingEvent};
 ghost use Rattle.region_program.specs.declared.Phase.TheVariants.{Settings, Loci, Pile};
 ghost use Rattle.region_program.specs.Program.{next, Scoring};
-ghost use Rattle.region_program.specs.Stream.{new_stream, stream_of, pile_of, refused_with, Stepped, EndsPile};
+ghost use Rattle.region_program.specs.Stream.{new_stream, stream_of, pile_of, Stepped, EndsPile};
 ghost use Rattle.region_program.specs.Tables.{table_score};
+ghost use Rattle.region_stream.specs.Refused.{refused_step};
 
 use activity_profile::{BandPassActivityProfile, Popped};
 use activity_scoring::ScoringTables;
@@ -25,7 +27,8 @@ use region_program::{
 };
 use stream_settings::StreamSettings;
 
-// A stream before its first event.
+// A stream before its first event. It has a profile from the start, of zeros: the definitions `new_stream` and `seen` read
+// one in every phase.
 pub fn new_stream() -> RegionStream
     ensures { result ≡ new_stream }
 {
@@ -66,11 +69,11 @@ pub fn act(
 }
 
 // An event that is refused at the word of an index: the stream is handed back as it was.
-fn refused(s: RegionStream, refusal: Refusal, index: u64) -> Result<Step, RefusedStep>
-    ensures { result ≡ refused_with refusal index s }
+fn refused(s: RegionStream, refusal: Refusal, index: u64) -> RefusedStep
+    ensures { result ≡ refused_step refusal index s }
 {
     let why = StreamRefusal { refusal, index };
-    Err(RefusedStep { why, stream: s })
+    RefusedStep { why, stream: s }
 }
 
 // ---- before the first locus
@@ -87,10 +90,10 @@ fn before_loci(
 {
     match event {
         StreamEvent::Locus { position } => open_first(s, position, kernel),
-        StreamEvent::Observation { word: _ } => refused(s, Refusal::Word, s.index),
+        StreamEvent::Observation { word: _ } => Err(refused(s, Refusal::Word, s.index)),
         StreamEvent::Pop { value } => pop_unmade(s, value),
         StreamEvent::Setting { field, value } => set_field(s, field, value),
-        StreamEvent::Remainder => refused(s, Refusal::Word, s.index),
+        StreamEvent::Remainder => Err(refused(s, Refusal::Word, s.index)),
         StreamEvent::End => Ok(Step::Next(s)),
     }
 }
@@ -105,10 +108,9 @@ fn open_first(
     ensures { (scoring : Scoring) (pile : List ℕ) (cells : List Float)
         → Stepped scoring (Locus position) s pile pile kernel.old kernel.new cells cells result }
 {
-    match stream_profile::make_profile(s.settings, kernel) {
-        Ok(p) => Ok(Step::Next(opened(s, p, position))),
-        Err(why) => refused(s, why, s.index),
-    }
+    let made = stream_profile::make_profile(s.settings, kernel);
+    let p = made.map_err(|why| refused(s, why, s.index))?;
+    Ok(Step::Next(opened(s, p, position)))
 }
 
 // The stream with the pile of a locus open.
@@ -129,18 +131,19 @@ fn opened(s: RegionStream, p: BandPassActivityProfile, position: u32) -> RegionS
 }
 
 // A pop before the first locus: there is nothing to hand out, but a size of 0 is refused. Here and in `pop` the value stays
-// a number: the definitions and the laws speak of it, and a value of neither is refused as a word, before anything else.
+// a number: the definitions `pop_unmade` and `popped`, which `Stepped` stands on, speak of the event `Pop value` for every
+// value, and one that is neither 0 nor 1 is refused as a word, before anything else.
 fn pop_unmade(s: RegionStream, value: u32) -> Result<Step, RefusedStep>
     requires { s.phase ≡ Settings }
     ensures { (scoring : Scoring) (pile : List ℕ) (kernel cells : List Float)
         → Stepped scoring (Pop value) s pile pile kernel kernel cells cells result }
 {
     if value > 1 {
-        return refused(s, Refusal::Word, s.index);
+        return Err(refused(s, Refusal::Word, s.index));
     }
     let settings = s.settings;
     if (settings.min_region_size == 0) | (settings.max_region_size == 0) {
-        return refused(s, Refusal::ZeroSize, s.index);
+        return Err(refused(s, Refusal::ZeroSize, s.index));
     }
     Ok(Step::Next(advanced(s, s.profile)))
 }
@@ -162,14 +165,15 @@ fn set_field(s: RegionStream, field: u32, value: u32) -> Result<Step, RefusedSte
     ensures { (scoring : Scoring) (pile : List ℕ) (kernel cells : List Float)
         → Stepped scoring (SettingEvent field value) s pile pile kernel kernel cells cells result }
 {
-    match s.settings.with_field(field, value) {
-        Ok(settings) => Ok(Step::Next(RegionStream {
-            settings,
-            index: s.index.wrapping_add(1),
-            ..s
-        })),
-        Err(why) => refused(s, why, s.index),
-    }
+    let settings = s
+        .settings
+        .with_field(field, value)
+        .map_err(|why| refused(s, why, s.index))?;
+    Ok(Step::Next(RegionStream {
+        settings,
+        index: s.index.wrapping_add(1),
+        ..s
+    }))
 }
 
 // ---- past it, with no pile open
@@ -186,10 +190,10 @@ fn between_piles(
 {
     match event {
         StreamEvent::Locus { position } => Ok(Step::Next(opened(s, s.profile, position))),
-        StreamEvent::Observation { word: _ } => refused(s, Refusal::Word, s.index),
+        StreamEvent::Observation { word: _ } => Err(refused(s, Refusal::Word, s.index)),
         StreamEvent::Pop { value } => pop(s, value, cells),
-        StreamEvent::Setting { field: _, value: _ } => refused(s, Refusal::Word, s.index),
-        StreamEvent::Remainder => refused(s, Refusal::Word, s.index),
+        StreamEvent::Setting { field: _, value: _ } => Err(refused(s, Refusal::Word, s.index)),
+        StreamEvent::Remainder => Err(refused(s, Refusal::Word, s.index)),
         StreamEvent::End => Ok(Step::Next(s)),
     }
 }
@@ -201,23 +205,24 @@ fn pop(s: RegionStream, value: u32, cells: &mut [f64; CELLS]) -> Result<Step, Re
         → Stepped scoring (Pop value) s pile pile kernel kernel cells.old cells.new result }
 {
     if value > 1 {
-        return refused(s, Refusal::Word, s.index);
+        return Err(refused(s, Refusal::Word, s.index));
     }
-    match profile_pop::try_pop_next_ready_region(
+    let popped = profile_pop::try_pop_next_ready_region(
         s.profile,
         cells,
         s.settings.assembly_region_extension,
         s.settings.min_region_size,
         s.settings.max_region_size,
         value == 1,
-    ) {
-        Ok(Popped::Ready(region, q)) => {
+    )
+    .map_err(|call| refused(s, call.refusal, s.index))?;
+    match popped {
+        Popped::Ready(region, q) => {
             let left = RegionStream { profile: q, ..s };
             Ok(Step::Line(region, left))
         }
-        Ok(Popped::Held(q)) => Ok(Step::Next(advanced(s, q))),
-        Ok(Popped::Empty(q)) => Ok(Step::Next(advanced(s, q))),
-        Err(call) => refused(s, call.refusal, s.index),
+        Popped::Held(q) => Ok(Step::Next(advanced(s, q))),
+        Popped::Empty(q) => Ok(Step::Next(advanced(s, q))),
     }
 }
 
@@ -238,7 +243,7 @@ fn within_pile(
 {
     match event {
         StreamEvent::Observation { word } => observe(s, at, word, &mut memory.pile),
-        StreamEvent::Setting { field: _, value: _ } => refused(s, Refusal::Word, s.index),
+        StreamEvent::Setting { field: _, value: _ } => Err(refused(s, Refusal::Word, s.index)),
         StreamEvent::Locus { position: _ }
         | StreamEvent::Pop { value: _ }
         | StreamEvent::Remainder
@@ -286,10 +291,9 @@ fn end_pile(
         priors: &tables.priors,
     };
     let cells = &mut memory.cells;
-    match stream_profile::add_pile(p, at.locus, words, kernel, cells, tables) {
-        Ok(q) => Ok(Step::Again(closed(s, q))),
-        Err(why) => refused(s, why, at.locus_index),
-    }
+    let added = stream_profile::add_pile(p, at.locus, words, kernel, cells, tables);
+    let q = added.map_err(|why| refused(s, why, at.locus_index))?;
+    Ok(Step::Again(closed(s, q)))
 }
 
 // The stream at the same word with no pile open and another record.

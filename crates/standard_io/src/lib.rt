@@ -17,7 +17,8 @@ pub const WORDS: usize = 16384;
 // What a reading brings.
 #[derive(Clone, Copy)]
 pub enum Input {
-    // So many words, and so many bytes kept of a word that is not whole yet.
+    // So many words, and so many bytes kept of a word that is not whole yet. The words are at the front of what was lent: a
+    // slice of them here would keep the lent memory lent, and the definition `Reads` is of the count.
     Words { count: usize, kept: usize },
     // The end of the input, and whether bytes are left over that are no whole word.
     End { remainder: bool },

@@ -4,7 +4,7 @@ ghost use Rattle.std.specs.Io.{ReadsAtMost};
 ghost use Rattle.std.specs.Io.KnownBytes.{Consumes, IsAtEnd, Keeps};
 ghost use Rattle.lists.specs.Each.{each};
 ghost use Rattle.standard_io.specs.Taken.{Takes};
-ghost use Rattle.standard_io.specs.Words.{Reads, BLOCK as block_size, WORDS as word_count, word_at, read_word, moved_byte, kept_of};
+ghost use Rattle.standard_io.specs.Words.{Reads, BLOCK as block_size, word_at, read_word, moved_byte, kept_of};
 
 use crate::{BLOCK, Input, WORDS};
 use std::io;
@@ -44,10 +44,10 @@ impl Input {
 fn read_behind<R: Read>(
     reader: &mut R,
     from: usize,
-    bytes: &mut [u8],
-    words: &mut [u32],
+    bytes: &mut [u8; BLOCK],
+    words: &mut [u32; WORDS],
 ) -> io::Result<Input>
-    requires { (from < 4) × (length bytes.old ≡ block_size) × (length words.old ≡ word_count) }
+    requires { from < 4 }
     ensures ok { IfOk result (λ input. Reads from bytes.old bytes.new words.old words.new input) }
     ensures taken { IfOk result (λ input. Takes (R.remaining reader.old) (R.remaining reader.new)
         from bytes.old bytes.new words.old words.new input) }
@@ -87,12 +87,13 @@ fn read_once<R: Read>(reader: &mut R, bytes: &mut [u8]) -> io::Result<usize>
 }
 
 // Reads the whole words of the first n bytes, and answers how many they are.
-fn words_of(bytes: &[u8], n: usize, words: &mut [u32]) -> usize
-    requires { (n ≤ length bytes.now) × (n ≤ block_size) × (length words.old ≡ word_count) }
+fn words_of(bytes: &[u8; BLOCK], n: usize, words: &mut [u32; WORDS]) -> usize
+    requires { n ≤ block_size }
     ensures value { result ≡ n / 4 }
     ensures words_after { words.new ≡ each (read_word bytes.now (n / 4)) words.old }
 {
     let count = n / 4;
+    // By index: each turn reads four bytes and writes a word, and a proof knows nothing of what a zip over `iter_mut` writes.
     for i in 0..count {
         words[i] = word_at(bytes, 4 * i);
     }
@@ -108,8 +109,8 @@ fn word_at(bytes: &[u8], at: usize) -> u32
 }
 
 // Moves the bytes behind the last whole word of the first n to the front of the block, and answers how many they are.
-fn keep_rest(bytes: &mut [u8], n: usize) -> usize
-    requires { n ≤ length bytes.old }
+fn keep_rest(bytes: &mut [u8; BLOCK], n: usize) -> usize
+    requires { n ≤ block_size }
     ensures value { result ≡ n % 4 }
     ensures bytes_after { bytes.new ≡ each (moved_byte bytes.old n) bytes.old }
 {

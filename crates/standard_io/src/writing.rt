@@ -1,5 +1,5 @@
 // Writing text.
-ghost use Rattle.std.specs.Prelude.{◌≤◌, length, take, ◌≡◌, OnOk, OnErr};
+ghost use Rattle.std.specs.Prelude.{take, OnOk, OnErr};
 ghost use Rattle.std.specs.Io.KnownBytes.{Appends};
 ghost use Rattle.standard_io.specs.Written.{FrontWritten};
 
@@ -17,7 +17,8 @@ pub fn write_front<W: Write>(writer: &mut W, block: &[u8; BLOCK], n: usize) -> i
     write_all(writer, &block[..n.min(BLOCK)])
 }
 
-// Writes every byte in its order, or stops at a write that fails or takes nothing. One that a signal interrupts is tried again.
+// Writes every byte in its order, or stops at a write that fails or takes nothing. One that a signal interrupts is tried
+// again. It is not std's `write_all`: that says nothing of what was written on an error, and the clause `err` does.
 fn write_all<W: Write>(writer: &mut W, bytes: &[u8]) -> io::Result<()>
     ensures ok { OnOk result (Appends (W.contents writer.old) (W.contents writer.new) bytes.now) }
     ensures err { OnErr result (FrontWritten (W.contents writer.old) (W.contents writer.new) bytes.now) }

@@ -13,7 +13,7 @@ returns-clause-taken g c =
     let got = c.in_ok-got.got in
     let block = c.read_once.new.bytes in
     let front = take a.from a.bytes.now in
-    let rest = drop (length a.bytes.now - a.from) (drop a.from a.bytes.now) in
+    let rest = drop (65536 - a.from) (drop a.from a.bytes.now) in
     let fits : got ≤ length block = c.in_ok-got.ensures.bound.0 in
     let front_length : length front ≡ a.from = length-take-le a.from a.bytes.now (omega (arith, c.requires)) in
     record {

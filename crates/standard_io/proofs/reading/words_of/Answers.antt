@@ -11,7 +11,7 @@ pub loop-i-preserved : goal.loop-i-preserved
 loop-i-preserved c =
     let a = c.args in
     let below : c.loop-i.i < a.n / 4 = omega arith in
-    (simp length-set c.loop-i.invariant.0, up_to_put (read_word a.bytes.now (a.n / 4)) c.loop-i.i _ _ 0 _ c.loop-i.invariant.1 (omega (arith, c.requires.2)) (simp (lt-ltb _ _ below) c.word_at.ensures))
+    (simp length-set c.loop-i.invariant.0, up_to_put (read_word a.bytes.now (a.n / 4)) c.loop-i.i _ _ 0 _ c.loop-i.invariant.1 (omega (arith, c.requires)) (simp (lt-ltb _ _ below) c.word_at.ensures))
 
 pub returns-clause-words_after : goal.returns-clause-words_after
 returns-clause-words_after c =
