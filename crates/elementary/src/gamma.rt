@@ -34,8 +34,8 @@ fn shift(from: f64) -> Shifted
         if !(x < 16.0) {
             return Shifted { x, c };
         }
-        c = c + ln(x);
-        x = x + 1.0;
+        c += ln(x);
+        x += 1.0;
     }
     Shifted { x, c }
 }

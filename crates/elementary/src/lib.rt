@@ -13,7 +13,7 @@ pub use exponential::{exp, ten_to};
 pub use gamma::ln_gamma;
 pub use logarithm::{LOG10_E, ln, log10};
 
-// A number on its way to 1 ≤ m < 2: y × 2 to the doublings is m × 2 to the halvings.
+// A number on its way to 1 ≤ m < 2: y × 2 to the doublings is m × 2 to the halvings. Public, since the definitions speak of it.
 #[derive(Clone, Copy)]
 pub struct Scaled {
     pub m: f64,
@@ -21,7 +21,7 @@ pub struct Scaled {
     pub doublings: u32,
 }
 
-// ln_gamma's x on its way to 16, with the sum c of the logarithms passed.
+// ln_gamma's x on its way to 16, with the sum c of the logarithms passed. Public as well.
 #[derive(Clone, Copy)]
 pub struct Shifted {
     pub x: f64,

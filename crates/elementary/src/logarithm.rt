@@ -19,7 +19,7 @@ pub fn ln(y: f64) -> f64
         return f64::INFINITY;
     }
     if y == 0.0 {
-        return -f64::INFINITY;
+        return f64::NEG_INFINITY;
     }
     f64::NAN
 }
@@ -47,7 +47,7 @@ fn scale_down(y: f64) -> Scaled
                 doublings: 0,
             };
         }
-        m = m * 0.5;
+        m *= 0.5;
     }
     Scaled {
         m,
@@ -71,7 +71,7 @@ fn scale_up(s: Scaled) -> Scaled
                 doublings,
             };
         }
-        m = m * 2.0;
+        m *= 2.0;
     }
     Scaled {
         m,

@@ -22,7 +22,7 @@ pub fn error_patterns() -> [u64; QUALITIES]
 }
 
 // The probability by the table, which is lent, so that a caller who asks often lays it out once. The missing quality has
-// no entry, and scoring never asks for it; it is worked out.
+// no entry, and is worked out. Scoring does not read the table yet: it goes by the steps.
 #[tactic(auto, using(std::proofs::lemmas::Bool::Decides::nat_tests), unfolding(crate::specs::Table::probability_in))]
 pub fn error_probability(patterns: &[u64; QUALITIES], qual: u8) -> f64
     ensures { result ≡ probability_in patterns.now qual }

@@ -49,7 +49,7 @@ pub enum Refusal {
 }
 
 impl Refusal {
-    // The refusal's number.
+    // The refusal's number. A method, which reads at its callers as what it is, and no `From`.
     pub fn number(self) -> u32
         ensures { result ≡ number_of self }
     {

@@ -4,7 +4,8 @@ ghost use Rattle.pileup_words.specs.Events.{event_of};
 
 use crate::{FIELD, KIND, StreamEvent};
 
-// The event that a word is, whatever came before it.
+// The event that a word is, whatever came before it, by the numbers that document 01 gives the kinds. The function has the
+// definition's name, which a `From` would hide.
 #[tactic(auto, unfolding(crate::specs::Events::event_of))]
 pub fn event_of(w: u32) -> StreamEvent
     ensures { result ≡ event_of w }

@@ -32,7 +32,9 @@ pub struct PileupObservation {
     pub read_hq_soft_clip_base_count: u32,
 }
 
-// What a stream brings: a word of each kind, a remainder of bytes that is no whole word, and the end of the input.
+// What a stream brings: a word of each kind, a remainder of bytes that is no whole word, and the end of the input. The value
+// of a pop and the field of a setting are the word's own numbers: the definitions (`event_of`, `popped`, `with_field`) speak
+// of them, and a number that has no meaning is refused where the word stands.
 #[derive(Clone, Copy)]
 pub enum StreamEvent {
     Locus { position: u32 },

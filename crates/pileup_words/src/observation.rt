@@ -12,7 +12,7 @@ impl PileupObservation {
         w / KIND == 1
     }
 
-    // The observation that a word holds, whatever its kind.
+    // The observation that a word holds, whatever its kind: no `From`, since a word of another kind is none.
     pub fn from_word(w: u32) -> PileupObservation
         ensures { result ≡ observation w }
     {

@@ -27,7 +27,9 @@ pub const PRIORS: usize = 6;
 // The one contig of a stream.
 pub const CONTIG: u32 = 0;
 
-// What is lent to a stream beside its state: the pile that is being read, its kernel, and its cells.
+// What is lent to a stream beside its state: the pile that is being read, its kernel, and its cells. Arrays, for there is no
+// heap; how much of each is in use the state says (`OpenPile.depth`, the profile's filter size and count), and the
+// definitions (`Taken`, `Stepped`) speak of the whole arrays.
 #[derive(Drop)]
 pub struct StreamMemory {
     pub pile: [u32; PILE],
@@ -35,7 +37,8 @@ pub struct StreamMemory {
     pub cells: [f64; CELLS],
 }
 
-// The tables that piles are scored by, lent to a stream too.
+// The tables that piles are scored by, lent to a stream too. Not part of its memory: they are filled once and may be lent to
+// many streams.
 #[derive(Drop)]
 pub struct StreamTables {
     pub contributions: [f64; TABLE],
@@ -61,7 +64,8 @@ pub enum Phase {
     Pile(OpenPile),
 }
 
-// What the events so far have left, and the index of the next word. The profile is looked at past the first locus alone.
+// What the events so far have left, and the index of the next word. The profile is looked at past the first locus
+// alone, and yet no part of the phase: the definitions (`seen`, `new_stream`, `Reading`) have it in every phase.
 #[derive(Clone, Copy)]
 pub struct RegionStream {
     pub settings: StreamSettings,
@@ -88,7 +92,7 @@ pub struct StreamRefusal {
     pub index: u64,
 }
 
-// An event that is refused: why, and the state as it was given.
+// An event that is refused: why, and the state as it was given, which `answer_of` and `refused_as_it_was` promise.
 #[derive(Clone, Copy)]
 pub struct RefusedStep {
     pub why: StreamRefusal,

@@ -15,7 +15,8 @@ use genotype_likelihoods::HaplotypeCallerActivityScoringParams;
 use region_program::{CONTIG, KERNEL, StreamTables};
 use stream_settings::StreamSettings;
 
-// Fills the tables that piles are scored by. To be called once, before the first event.
+// Fills the tables that piles are scored by. To be called once, before the first event. As activity_scoring's `fill_tables`,
+// which may refuse: here the settings are in their ranges and the arrays long enough.
 pub fn fill_tables(tables: &mut StreamTables)
     ensures contributions_after { tables.new.contributions ≡ table_filled tables.old.contributions }
     ensures priors_after { tables.new.priors ≡ list_filled tables.old.priors }

@@ -38,7 +38,8 @@ impl StreamSettings {
         }
     }
 
-    // The settings with another value in a field. Refuses a value outside its range, and a field that there is not.
+    // The settings with another value in a field. Refuses a value outside its range, and a field that there is not: the field
+    // comes as the number that a word has, and every number has an answer.
     #[tactic(auto, using(std::proofs::lemmas::Bool::Decides::nat_tests), unfolding(crate::specs::Settings::with_field))]
     pub fn with_field(self, field: u32, value: u32) -> Result<StreamSettings, Refusal>
         ensures { outcome_of result ≡ with_field self field value }
@@ -80,11 +81,11 @@ impl StreamSettings {
     }
 }
 
+// The settings of a stream that sets nothing.
 impl Default for StreamSettings {
-    // The settings of a stream that sets nothing.
-    fn default() -> StreamSettings
-        ensures { result ≡ defaults }
-    {
+    ghost is_default = { λ s. s ≡ defaults };
+
+    fn default() -> StreamSettings {
         StreamSettings {
             max_region_size: Self::DEFAULT_MAX_REGION_SIZE,
             min_region_size: Self::DEFAULT_MIN_REGION_SIZE,
