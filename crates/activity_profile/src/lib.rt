@@ -6,7 +6,8 @@
 
 use genome::{GenomePosition, Refusal};
 
-// What a locus was scored on: bases alone, or a count of clipped bases.
+// What a locus was scored on: bases alone, or a count of clipped bases. Document 01's two kinds of evidence, with the names that the Rust
+// gives them, in place of an Option.
 #[derive(Clone, Copy)]
 pub enum ActivityEvidence {
     Plain,
@@ -24,7 +25,8 @@ pub struct ActivityProfileState {
 }
 
 // The profile of one contig. Cell i of the first `count` lent cells is the activity at region_start + i; at count 0 region_start and
-// last_input_pos are 0, which is no position.
+// last_input_pos are 0, which is no position. They are numbers and no Option, since C hands the record over as numbers, and `broken` has
+// an answer for any of them, also for a 0 where loci are held.
 #[derive(Clone, Copy)]
 pub struct BandPassActivityProfile {
     pub contig: u32,
@@ -52,14 +54,16 @@ pub struct ActivityProfileRegion {
     pub peak_pos: u32,
 }
 
-// A call on a profile that is refused: why, and the record as it was given.
+// A call on a profile that is refused: why, and the record as it was given, which document 01 has a refusal return: `add_answer_of` and
+// `pop_answer_of` take it from here.
 #[derive(Clone, Copy)]
 pub struct RefusedCall {
     pub refusal: Refusal,
     pub profile: BandPassActivityProfile,
 }
 
-// What a pop that is not refused comes to, with the record as it is after it.
+// What a pop that is not refused comes to, with the record as it is after it; for held and empty too, since `pop_answer_of` takes it
+// from there.
 #[derive(Clone, Copy)]
 pub enum Popped {
     Ready(ActivityProfileRegion, BandPassActivityProfile),

@@ -33,6 +33,9 @@ pub fn add(
     Ok(add_granted(p, state, kernel, cells))
 }
 
+// The functions below take the record and the state as two arguments, as `add` does: a struct of both would be made there and taken
+// apart at each field.
+
 // The add that is accepted: only the window's cells are lent on and written.
 fn add_granted(
     p: BandPassActivityProfile,
