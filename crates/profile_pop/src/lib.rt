@@ -226,7 +226,8 @@ fn is_better(states: &[f64], index: usize, best: Option<usize>) -> bool
     lower & is_minimum(states, index)
 }
 
-// Whether the cell is neither first nor last held, at most its right neighbour and strictly below its left.
+// Whether the cell is neither first nor last held, at most its right neighbour and strictly below its left. Its neighbours
+// are compared without a branch between them, which nothing foretells on rough cells.
 #[tactic(auto, using(std::proofs::lemmas::Bool::Decides::nat_tests), unfolding(activity_profile::specs::Pop::qualifies))]
 fn is_minimum(states: &[f64], index: usize) -> bool
     requires { index < length states.now }
@@ -234,8 +235,7 @@ fn is_minimum(states: &[f64], index: usize) -> bool
 {
     0 < index
         && index + 1 < states.len()
-        && states[index] <= states[index + 1]
-        && states[index] < states[index - 1]
+        && (states[index] <= states[index + 1]) & (states[index] < states[index - 1])
 }
 
 // Remaining cells move to the front; vacated and trimmed cells become 0.0. Cells past the count are not looked at.
