@@ -14,7 +14,7 @@ pub use score::{
 };
 pub use tables::fill_tables;
 
-// A mean of clip counts on its way: how many, and their mean.
+// A mean of clip counts on its way: how many, and their mean. Public, since the definitions speak of it.
 #[derive(Clone, Copy)]
 pub struct RunningMean {
     pub count: u64,
@@ -28,7 +28,8 @@ pub struct Activity {
     pub original: f64,
 }
 
-// The tables that scoring reads, of any length and content.
+// The tables that scoring reads, of any length and content. The settings of a call stay beside them: a table carries
+// settings of its own, and may be filled for others.
 #[derive(Clone, Copy)]
 pub struct ScoringTables<'a> {
     pub contributions: &'a [f64],

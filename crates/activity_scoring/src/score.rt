@@ -64,7 +64,8 @@ pub fn is_in_range(pos: GenomePosition, params: HaplotypeCallerActivityScoringPa
     params.in_range() & (1..=genome::MAX_POSITION).contains(&pos.0)
 }
 
-// Whether every word is an observation: document 01's refusal 3. A fold, which has no branch for a word, as `all` would.
+// Whether every word is an observation: document 01's refusal 3. The definition all_observations is this fold,
+// which takes no branch for a word, where `all` would stop at one.
 pub fn are_observations(pile: &[u32]) -> bool
     ensures { result ≡ all_observations pile.now }
 {
@@ -116,7 +117,8 @@ pub fn evidence_of(mean: f64) -> ActivityEvidence
 }
 
 // The activity of a pile, by the formulas. Its likelihoods stand in an array with room for them: an array is cleared
-// first, so that the usual ploidies have small ones, and 100 is the largest that is not refused.
+// first, so that the usual ploidies have small ones, and 100 is the largest that is not
+// refused: MAX_PLOIDY, written out as its array's 101 is, which cannot be worked out from it.
 pub fn activity_of(
     pile: &[u32],
     params: HaplotypeCallerActivityScoringParams,

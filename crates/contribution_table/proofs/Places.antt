@@ -1,5 +1,5 @@
 -- Places in the rows of the table, and the sums of a whole slice. Assumes nothing.
-use Rattle.std.proofs.Common.{◌≡◌, ℕ, zero, suc, ◌+◌, ◌*◌, ◌/◌, ◌<◌, ◌≤◌, Bool, true, false, ◌&&◌, eqb, leb, List, length, refl, ◌∙◌, mul-le-mul_right, div-lt_iff_lt-mul, arith, ltb-true, ne_eqb, eqb-true, leb-true}
+use Rattle.std.proofs.Common.{◌≡◌, ℕ, zero, suc, ◌+◌, ◌*◌, ◌<◌, ◌≤◌, Bool, true, false, ◌&&◌, eqb, leb, List, length, refl, ◌∙◌, mul-le-mul_right, arith, ltb-true, ne_eqb, eqb-true, leb-true}
 use Rattle.std.specs.List.{fold}
 use lib.Ieee.{Float}
 use Rattle.lists.specs.Each.{each, tabulate}
@@ -9,10 +9,6 @@ use Rattle.genome.specs.Ranges.{missing_quality}
 use Rattle.genotype_likelihoods.specs.declared.HaplotypeCallerActivityScoringParams.{HaplotypeCallerActivityScoringParams}
 use Rattle.genotype_likelihoods.specs.Likelihoods.{counted, less}
 use Rattle.contribution_table.specs.Table.{ploidy_of, rows, row_length, table_length, in_rows, serves, sum_at, share_of, likelihood_at}
-
--- a place before the end of the rows is in one of them
-pub row_below : (j n : ℕ) → 1 ≤ n → j < rows * n → j / n < rows
-row_below j n h k = (div-lt_iff_lt-mul {k = n} {x = j} {y = rows} h).1 k
 
 -- four entries from i on are in their row
 pub in_row : (r n i : ℕ) → r < rows → i + 4 ≤ n → r * n + i + 4 ≤ rows * n

@@ -7,6 +7,7 @@ use genome::Ploidy;
 use genotype_likelihoods::HaplotypeCallerActivityScoringParams;
 
 // Fills the front of the slice with the table of these settings. A slice that is shorter than `table_length` is left as it is.
+// genotype_posterior fills its priors alike; each says its own definition, and a function of both would take a closure for a loop.
 pub fn fill_contribution_table(table: &mut [f64], params: HaplotypeCallerActivityScoringParams)
     ensures { table.new ≡ filled params table.old }
 {

@@ -18,8 +18,8 @@ pub const HEADING: usize = 2;
 // A row for each quality below the missing one, plain and alternate.
 pub const ROWS: usize = 510;
 
-// The sums of four genotypes over some words, and how many of the words were not skipped. Four fields and no array: the
-// definitions name each sum, where an array would be a list that is read at a place, with a default.
+// The sums of four genotypes over some words, and how many of the words were not skipped. Public, since the definitions speak of
+// it. Four fields and no array: the definitions name each sum, where an array would be a list that is read at a place, with a default.
 #[derive(Clone, Copy)]
 pub struct Sums {
     pub count: u64,

@@ -55,7 +55,8 @@ impl<'a> Rows<'a> {
         sums.count
     }
 
-    // The sums of the four genotypes that genotype i is one of; within the four they are at hand.
+    // The sums of the four genotypes that genotype i is one of; within the four they are at hand. By index: what is written
+    // over the items of a `chunks_mut` is lost to the proof.
     fn sums_at(&self, sums: Sums, pile: &[u32], i: usize) -> Sums
         requires { (i < self.now.row)
             × (0 < i % 4

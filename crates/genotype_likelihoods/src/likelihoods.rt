@@ -1,8 +1,8 @@
 // The likelihoods of every genotype over a whole pile.
-ghost use Rattle.std.specs.Prelude.{◌≡◌, ◌<◌, cond, length, replicate};
+ghost use Rattle.std.specs.Prelude.{◌≡◌, ◌<◌, cond, length};
 ghost use Rattle.std.specs.List.{fold};
 ghost use Rattle.lists.specs.Each.{each};
-ghost use Rattle.doubles.specs.Constants.{zero_f, one_f};
+ghost use Rattle.doubles.specs.Constants.{one_f};
 ghost use Rattle.genotype_likelihoods.specs.Likelihoods.{gained, less, counted, taken, likelihoods};
 
 use crate::HaplotypeCallerActivityScoringParams;

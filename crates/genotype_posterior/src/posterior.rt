@@ -50,7 +50,8 @@ pub fn calculate_single_sample_biallelic_non_ref_posterior(
     )
 }
 
-// Each likelihood with the log10 of its genotype's prior added.
+// Each likelihood with the log10 of its genotype's prior added, which is worked out. That there is a genotype stands in four contracts:
+// the ploidy is one less than their number.
 fn write_unnormalized(gl: &mut [f64], settings: Heterozygosity)
     requires { 0 < length gl.old }
     ensures { gl.new ≡ unnormalized_all settings.snp settings.standard_deviation gl.old }
@@ -180,7 +181,7 @@ pub fn calculate_single_sample_biallelic_non_ref_posterior_by_priors(
     non_ref(&gl[..])
 }
 
-// Each likelihood with the log10 of its genotype's prior added.
+// The same by the list, where it is for these settings.
 fn unnormalize(gl: &mut [f64], settings: Heterozygosity, priors: &[f64])
     requires { 0 < length gl.old }
     ensures { gl.new

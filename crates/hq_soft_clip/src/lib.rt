@@ -9,7 +9,8 @@ ghost use Rattle.hq_soft_clip.specs.SoftClips.{with_base, count_high, passed, cl
 use genome::{MISSING_QUALITY, Refusal};
 
 // A walk along a read: how many of its bases have been passed, no further than there are qualities, and how many of them were clipped with
-// a high quality.
+// a high quality. Public, since the definitions speak of it. The qualities and the facts of a walk over them stay outside: the definitions
+// passed, clipped and walked go over any walk.
 #[derive(Clone, Copy)]
 pub struct Walk {
     pub at: usize,
@@ -92,7 +93,7 @@ fn clip(w: Walk, end: usize, qualities: &[u8]) -> Walk
     }
 }
 
-// How many of the qualities are strictly above 28 and not missing.
+// How many of the qualities are strictly above 28 and not missing. The definition count_high is this fold, without a branch for a quality.
 fn count_high(qualities: &[u8]) -> u64
     ensures { result ≡ count_high qualities.now }
 {

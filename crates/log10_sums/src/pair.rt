@@ -31,6 +31,7 @@ fn sum_ordered(a: f64, b: f64) -> f64
     b
 }
 
+// The Rust's name: the entry of its table, which is worked out here.
 #[tactic(auto, unfolding(crate::specs::Pair::jacobian))]
 fn jacobian_log_table_get(diff: f64) -> f64
     ensures { result ≡ jacobian diff }

@@ -6,7 +6,7 @@ ghost use Rattle.multi_sample_scoring.specs.Passed.{count_left};
 
 use activity_scoring::MAX_DEPTH;
 
-// Whether any pile has too many words.
+// Whether any pile has too many words. A fold and no `any`: the definition any_too_deep is this fold.
 pub(crate) fn is_any_too_deep(lengths: &[u32]) -> bool
     ensures { result ≡ any_too_deep lengths.now }
 {
