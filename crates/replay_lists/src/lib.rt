@@ -24,17 +24,17 @@ const NAME: usize = 4096;
 
 // Replays the files that the program's arguments name, and prints how many answers of each function agree.
 pub fn replay_arguments<R: Env + Files + Print + Eprint>(rt: &R) -> io::Result<()> {
-    let mut replay = Replay::new();
+    let mut findings = Findings::new();
     let mut name = [0u8; NAME];
     // By place, into lent memory: std's `args` gives strings, and no heap is used.
     for i in 1..usize::MAX {
         match rt.arg(i, &mut name) {
-            Ok(n) => replay.file(rt, &name[..n])?,
+            Ok(n) => findings.file(rt, &name[..n])?,
             Err(FillError::TooLong) => eprintln!(rt; "argument {i}: longer than {NAME} bytes")?,
             Err(FillError::NotPresent) => break,
         }
     }
-    replay.report(rt)
+    findings.report(rt)
 }
 
 // How many answers were asked for, and how many of them agree.
@@ -65,9 +65,9 @@ impl Tally {
     }
 }
 
-// What a replay has found so far, and the tables that streams are scored by.
+// What has been found so far, and the tables that streams are scored by.
 #[derive(Drop)]
-struct Replay {
+struct Findings {
     // The functions', in the order of their numbers.
     tallies: [Tally; FUNCTIONS],
     // That of answers of other functions, and of lists that are malformed.
@@ -75,11 +75,11 @@ struct Replay {
     tables: StreamTables,
 }
 
-impl Replay {
-    fn new() -> Replay {
+impl Findings {
+    fn new() -> Findings {
         let mut tables = StreamTables::new();
         stream_profile::fill_tables(&mut tables);
-        Replay {
+        Findings {
             tallies: [Tally::NONE; FUNCTIONS],
             unknown: Tally::NONE,
             tables,

@@ -1,4 +1,5 @@
-// Single adds and pops, on any record and cells.
+// Single adds and pops, on any record and cells. A word is named by its place, as the list's description counts them: a cursor
+// that moves at each read would hide which word is which.
 use activity_profile::{
     ActivityEvidence, ActivityProfileRegion, ActivityProfileState, BandPassActivityProfile, Popped,
     RefusedCall,
