@@ -51,7 +51,7 @@ fn fill_densities(kernel: &mut [f64], filter_size: u32, sigma: f64)
     ensures { kernel.new ≡ densities filter_size sigma (length kernel.old) }
 {
     for (i, entry) in kernel.iter_mut().enumerate() {
-        let at = std::num::nearest_u64_to_f64(i as u64);
+        let at = std::num::nearest_usize_to_f64(i);
         *entry = normal_distribution(f64::from(filter_size), sigma, at);
     }
 }
@@ -69,6 +69,6 @@ fn divide(kernel: &mut [f64], sum: f64)
     ensures { kernel.new ≡ each (over sum) kernel.old }
 {
     for entry in kernel.iter_mut() {
-        *entry = *entry / sum;
+        *entry /= sum;
     }
 }

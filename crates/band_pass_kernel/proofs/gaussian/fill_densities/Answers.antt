@@ -11,7 +11,7 @@ loop-i-init c = sym (up_to_zero (fixed (density _ _)) _)
 pub loop-i-preserved : goal.loop-i-preserved
 loop-i-preserved c =
     let a = c.args in
-    up_to_put (fixed (density a.filter_size a.sigma)) _ _ _ nan _ c.loop-i.invariant (omega arith) (simp (c.normal_distribution.ensures, c.from.ensures, c.nearest_u64_to_f64-at.ensures))
+    up_to_put (fixed (density a.filter_size a.sigma)) _ _ _ nan _ c.loop-i.invariant (omega arith) (simp (c.normal_distribution.ensures, c.from.ensures, c.nearest_usize_to_f64-at.ensures))
 
 pub returns : goal.returns
 unfolding densities
