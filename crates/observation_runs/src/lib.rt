@@ -57,7 +57,8 @@ fn keep_all(pile: &mut [u32], kept: usize, words: &[u32]) -> usize
     n
 }
 
-// The pile with one word more, where there is room. Answers how many it keeps.
+// The pile with one word more, where there is room. Answers how many it keeps: the pile is an array with its depth beside
+// it, since there is no heap, and `kept_more` is of both.
 pub fn keep(pile: &mut [u32], kept: usize, w: u32) -> usize
     ensures value { result ≡ (kept_more (record { depth = kept; pile = pile.old }) w).depth }
     ensures pile_after { pile.new ≡ (kept_more (record { depth = kept; pile = pile.old }) w).pile }

@@ -20,8 +20,8 @@ struct Printing {
 }
 
 // Runs the program to the end of its input, or to a refusal, and prints it in this form. A read or a write that fails is an
-// error, and nothing is written behind it. What is read and written is outside the logic, so there is nothing that a
-// contract could equate.
+// error, and nothing is written behind it. There is no contract: what standard input brings and what standard output takes
+// is outside the logic. For a reader and a writer whose bytes are known, standard_io's clauses say what each block is.
 pub fn run<R: io::Input + Print>(rt: &R, form: Form) -> io::Result<()> {
     let mut reader = rt.reader();
     let mut writer = io::writer(rt);
@@ -80,6 +80,8 @@ impl Printing {
     fn feed<W: Write>(&mut self, words: &[u32], writer: &mut W) -> io::Result<()> {
         self.run.at = 0;
         // No `for`: the place is the run's own, and a call moves it on by as many words as find room for their text.
+        // replay_stream's `word` has such a loop too. One function for both, with what is done with the text as a closure,
+        // would take run, text, memory, tables and words as five arguments, and be no shorter than the two loops.
         while self.run.at < words.len() {
             let text = &mut self.text;
             let memory = &mut self.memory;

@@ -73,6 +73,8 @@ fn has_room(text: &[u8], used: usize) -> bool
     text.len().saturating_sub(used) >= MOST
 }
 
+// `line` and `refusal` are two functions: one with the writing as a closure could promise no more than that the closure
+// wrote some bytes and answered where they start, and each caller would have to prove of them what is promised here.
 fn line(region: ActivityProfileRegion, text: &mut [u8], used: usize) -> usize
     requires { used + 105 ≤ length text.old }
     ensures added { Added (line_text region) text.old used text.new result }

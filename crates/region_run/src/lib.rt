@@ -1,6 +1,7 @@
 // A run of the region program: blocks of words in, the text of a listing or of a sheet out, and of a refusal. What a
 // block prints is worked out here, byte by byte; reading and writing are the program's. No public function has a
-// `requires`.
+// `requires`. Memory and tables are lent side by side, as to region_stream: tables may be shared by runs, and memory is one
+// run's own.
 #![tactic(auto)]
 
 ghost use Rattle.std.specs.Prelude.{◌≡◌, false, ◌++◌, ◌+◌, ◌≤◌, ◌<◌, length, take};

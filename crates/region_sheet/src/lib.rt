@@ -29,7 +29,8 @@ const LAST: usize = 45;
 // The columns of a position.
 const COLUMNS: usize = 10;
 
-// The row of a region, whatever the numbers are: ten columns hold every one.
+// The row of a region, whatever the numbers are: ten columns hold every one. The five fields are arguments, and no region:
+// the definition `row_text` is of these five numbers.
 pub fn row_text(
     start: u32,
     end: u32,
@@ -50,6 +51,7 @@ pub fn row_text(
 }
 
 // Writes n right-aligned into the ten columns from `from` on, the last digit first. All up to their end is blank before.
+// Not by region_text's digits: those are a text of their own with no width, and would be copied here into the columns.
 fn column(row: &mut [u8; ROW], from: usize, n: u32)
     requires position_columns_bound { from + position_columns ≤ 46 }
     requires row_value { take (from + position_columns) row.old ≡ replicate (from + position_columns) blank }

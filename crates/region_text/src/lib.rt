@@ -1,8 +1,10 @@
 // The text of what the region program prints, in ASCII: document 01, 'The region program'. No public function has a `requires`.
 //
 // A text is written from the end of a lent buffer to its front, since a number's last digit comes first; each function
-// answers where it starts. The buffer and the place are two values: the caller lends an array and gets a place in it, so
-// that a type of both would be made and taken apart in each of the two public functions.
+// answers where it starts. It is no `Display` with `write!`: that writes from front to back, and the clauses `text_after`
+// say which bytes stand in the lent buffer. The buffer and the place are two values: the caller lends an array and gets a
+// place in it, and `Writes` says of each piece what it makes of both, old and new; a type of both would say it of its
+// fields, no shorter, and be taken apart again for the answer.
 #![tactic(auto)]
 
 ghost use Rattle.std.specs.Prelude.{◌≡◌, ◌+◌, ◌≤◌, length, drop, take};
@@ -65,7 +67,8 @@ fn number(text: &mut [u8], at: usize, then: u8, n: u64) -> usize
     digits(text, p, n)
 }
 
-// The digits of n, before the text from `at` on.
+// The digits of n, before the text from `at` on. region_sheet writes digits of its own: there they stand in a column of
+// fixed width and begin nowhere, and here they begin where the number is done.
 fn digits(text: &mut [u8], at: usize, n: u64) -> usize
     requires { (20 ≤ at) × (at ≤ length text.old) }
     ensures { Writes 20 (decimal n) text.old at text.new result }
