@@ -1,5 +1,6 @@
 // Feeding the region program the words of a stream: what a program that prints, or one that compares, does with each
-// word. No public function has a `requires`.
+// word. No public function has a `requires`. Memory and tables are lent side by side, as to region_stream: tables may be
+// shared by streams, and memory is one stream's own.
 #![tactic(auto)]
 
 ghost use Rattle.std.specs.Prelude.{◌≡◌, [], ◌∷◌, ◌+◌, ◌^◌, ◌<◌, length, drop};
@@ -48,7 +49,8 @@ pub fn advance(
     fed_to(s, at, Ok(None))
 }
 
-// Acts on the word at `at`: where that ends a pile, once more.
+// Acts on the word at `at`: where that ends a pile, once more. One arm for the last two, `step => fed_by(step, at)`, was
+// tried, and its proof did not close: it has that step by its variants, and not as what `act` answered.
 fn act_on(
     s: RegionStream,
     word: u32,
