@@ -14,7 +14,7 @@ pub fn genotype_contribution(qual: u8, is_alt: bool, genotype: usize, ploidy: Pl
     let wrong = qual_to_error_prob_log10_third(qual);
     let reference_likelihood = pick(is_alt, wrong, right);
     let non_ref_likelihood = pick(is_alt, right, wrong);
-    let n = ploidy.0 as u64;
+    let n = u64::from(ploidy.0);
     let i = genotype as u64;
     if i == 0 {
         return reference_likelihood + log10_whole(n);
@@ -48,7 +48,7 @@ fn qual_to_prob_log10(qual: u8) -> f64
 fn qual_to_error_prob_log10_third(qual: u8) -> f64
     ensures { result ≡ qual_to_error_prob_log10_third qual }
 {
-    (qual as f64) * -0.1 + -0.47712125471966244
+    f64::from(qual) * -0.1 + -0.47712125471966244
 }
 
 fn log10_whole(n: u64) -> f64

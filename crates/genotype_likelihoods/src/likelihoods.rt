@@ -24,7 +24,7 @@ pub fn calc_ref_vs_any_log10_genotype_likelihoods(
     gl.fill(0.0);
     let read_count = take_words(gl, pile, params);
     let p = params.sample_ploidy;
-    let denom = std::num::nearest_u64_to_f64(read_count) * elementary::log10(p.0 as f64);
+    let denom = std::num::nearest_u64_to_f64(read_count) * elementary::log10(f64::from(p.0));
     subtract(gl, denom);
 }
 
@@ -73,7 +73,7 @@ fn gain(gl: &mut [f64], qual: u8, is_alt: bool, weight: f64, ploidy: Ploidy)
     ensures { gl.new ≡ each (gained qual is_alt weight ploidy.0) gl.old }
 {
     for (i, x) in gl.iter_mut().enumerate() {
-        *x = *x + weight * genotype_contribution(qual, is_alt, i, ploidy);
+        *x += weight * genotype_contribution(qual, is_alt, i, ploidy);
     }
 }
 
@@ -82,6 +82,6 @@ pub fn subtract(gl: &mut [f64], denom: f64)
     ensures { gl.new ≡ each (less denom) gl.old }
 {
     for x in gl.iter_mut() {
-        *x = *x - denom;
+        *x -= denom;
     }
 }

@@ -36,5 +36,5 @@ pub fn skip_observation(
 fn lacks_quality(qual: u8, params: HaplotypeCallerActivityScoringParams) -> bool
     ensures { result ≡ lacks_quality params qual }
 {
-    (qual as u32 + 1) % 256 <= params.min_base_quality_score as u32
+    (u32::from(qual) + 1) % 256 <= u32::from(params.min_base_quality_score)
 }

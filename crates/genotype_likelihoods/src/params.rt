@@ -42,9 +42,9 @@ impl HaplotypeCallerActivityScoringParams {
     pub fn in_range(self) -> bool
         ensures { result ≡ settings_in_range self }
     {
-        let ploidy = self.sample_ploidy.0 as u32;
-        let min_qual = self.min_base_quality_score as u32;
-        let deletion_qual = self.ref_model_deletion_qual as u32;
+        let ploidy = u32::from(self.sample_ploidy.0);
+        let min_qual = u32::from(self.min_base_quality_score);
+        let deletion_qual = u32::from(self.ref_model_deletion_qual);
         (1..=Self::MAX_PLOIDY).contains(&ploidy)
             & (Self::MIN_QUAL..=Self::MAX_QUAL).contains(&min_qual)
             & (Self::MIN_QUAL..=Self::MAX_QUAL).contains(&deletion_qual)

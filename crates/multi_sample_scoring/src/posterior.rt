@@ -15,7 +15,7 @@ pub(crate) fn with_pile(
 ) -> f64
     ensures { result ≡ with_pile tables.entry.contributions.now tables.entry.priors.now params inactive_prob pile.now }
 {
-    if pile.len() == 0 {
+    if pile.is_empty() {
         return inactive_prob;
     }
     let a = activity_scoring::activity_of(pile, params, tables);

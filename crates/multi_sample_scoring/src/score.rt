@@ -46,20 +46,16 @@ pub fn haplotype_caller_activity_profile_state_multi_sample_by_tables(
     ensures { outcome_of result
         ≡ set_score_by tables.entry.contributions.now tables.entry.priors.now contig pos words.now lengths.now params }
 {
-    let many = lengths.len() > MAX_PILES;
-    let in_range = activity_scoring::is_in_range(pos, params);
-    if many {
+    if lengths.len() > MAX_PILES {
         return Err(Refusal::Piles);
     }
-    if !in_range {
+    if !activity_scoring::is_in_range(pos, params) {
         return Err(Refusal::Setting);
     }
-    let deep = is_any_too_deep(lengths);
-    let whole = total_of(lengths) == words.len();
-    if deep {
+    if is_any_too_deep(lengths) {
         return Err(Refusal::Depth);
     }
-    if !whole {
+    if total_of(lengths) != words.len() {
         return Err(Refusal::Word);
     }
     if !activity_scoring::are_observations(words) {

@@ -29,4 +29,4 @@ pub returns : goal.returns
 unfolding lacks_quality
 returns c =
     let a = c.args in
-    as_byte a.qual a.params.min_base_quality_score (omega arith)
+    rw (c.from.ensures, c.from-2.ensures) (as_byte a.qual a.params.min_base_quality_score (omega arith))
