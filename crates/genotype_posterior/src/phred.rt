@@ -35,7 +35,7 @@ fn round_one(g: f64, top: f64) -> f64
     ensures { result ≡ round_trip top 0 g }
 {
     let pl = pl_of(-10.0 * (g - top));
-    pl as f64 / -10.0
+    f64::from(pl) / -10.0
 }
 
 // The PL of a value: capped, then the whole part of the value + 0.5.

@@ -1,5 +1,8 @@
 // The probability that a sample is not all reference.
 ghost use Rattle.std.specs.Prelude.{◌≡◌, ◌-◌, ◌<◌, ◌≤◌, length};
+ghost use Rattle.std.specs.Float.{binary64};
+ghost use Rattle.std.specs.Float.Ieee.{mul};
+ghost use Rattle.elementary.specs.Ln.{log10_e};
 ghost use Rattle.lists.specs.Each.{each};
 ghost use Rattle.genotype_posterior.specs.Posterior.{ref_pseudocount, snp_pseudocount, log_binomial, ln_prior, unnormalized_all, non_ref, posterior, posterior_written};
 ghost use Rattle.genotype_posterior.specs.Priors.{priors_length, prior_at, log10_priors, are_for, with_prior};
@@ -60,8 +63,16 @@ fn write_unnormalized(gl: &mut [f64], settings: Heterozygosity)
     let ref_pc = settings.ref_pseudocount();
     let snp_pc = settings.snp_pseudocount();
     for (i, x) in gl.iter_mut().enumerate() {
-        *x = *x + ln_prior(ploidy, i as u64, ref_pc, snp_pc) * elementary::LOG10_E;
+        *x += log10_prior(ploidy, i as u64, ref_pc, snp_pc);
     }
+}
+
+// log10 of the prior of n copies of the alternate.
+fn log10_prior(ploidy: u64, n: u64, ref_pc: f64, snp_pc: f64) -> f64
+    requires { (n ≤ ploidy) × (ploidy < 18446744073709551615) }
+    ensures { result ≡ mul binary64 (ln_prior ploidy ref_pc snp_pc n) log10_e }
+{
+    ln_prior(ploidy, n, ref_pc, snp_pc) * elementary::LOG10_E
 }
 
 // The natural logarithm of the prior of n copies of the alternate.
@@ -133,7 +144,7 @@ pub fn fill_log10_priors(
 pub fn priors_length(ploidy: Ploidy) -> usize
     ensures { result ≡ priors_length ploidy.0 }
 {
-    HEADING + (ploidy.0 as usize + 1)
+    HEADING + (usize::from(ploidy.0) + 1)
 }
 
 // What stands at a place of the list.
@@ -143,13 +154,13 @@ fn prior_at(j: usize, ploidy: Ploidy, settings: Heterozygosity) -> f64
     ensures { result ≡ prior_at ploidy.0 settings.snp settings.standard_deviation j }
 {
     match j {
-        0 => ploidy.0 as f64,
+        0 => f64::from(ploidy.0),
         1 => settings.snp,
         2 => settings.standard_deviation,
         _ => {
             let ref_pc = settings.ref_pseudocount();
-            let alt_pc = settings.snp_pseudocount();
-            ln_prior(ploidy.0 as u64, (j - HEADING) as u64, ref_pc, alt_pc) * elementary::LOG10_E
+            let snp_pc = settings.snp_pseudocount();
+            log10_prior(u64::from(ploidy.0), (j - HEADING) as u64, ref_pc, snp_pc)
         }
     }
 }
@@ -206,10 +217,10 @@ fn are_for(priors: &[f64], genotypes: usize, settings: Heterozygosity) -> bool
         return false;
     }
     let ploidy = std::num::nearest_u64_to_f64(genotypes as u64 - 1);
-    let same = numbers::same_positive(priors[0], ploidy);
+    let copies = numbers::same_positive(priors[0], ploidy);
     let mean = numbers::same_positive(priors[1], settings.snp);
     let spread = numbers::same_positive(priors[2], settings.standard_deviation);
-    same & (mean & spread)
+    copies & (mean & spread)
 }
 
 fn add_priors(gl: &mut [f64], priors: &[f64])
@@ -217,6 +228,6 @@ fn add_priors(gl: &mut [f64], priors: &[f64])
     ensures { gl.new ≡ each (with_prior priors.now) gl.old }
 {
     for (i, x) in gl.iter_mut().enumerate() {
-        *x = *x + priors[i];
+        *x += priors[i];
     }
 }

@@ -22,4 +22,4 @@ returns c =
     let tests = near in
     let a = tests.args in
     let long : length a.priors.now ≡ heading + a.genotypes = omega (arith, tests.if-priors-genotypes.false, tests.if-priors-lt-HEADING.false) in
-    rw (eq-eqb (length a.priors.now) (heading + a.genotypes) long, c.same_positive-spread.ensures, c.same_positive-mean.ensures, c.same_positive-same.ensures, near.nearest_u64_to_f64-ploidy.ensures)
+    rw (eq-eqb (length a.priors.now) (heading + a.genotypes) long, c.same_positive-spread.ensures, c.same_positive-mean.ensures, c.same_positive-copies.ensures, near.nearest_u64_to_f64-ploidy.ensures)

@@ -15,7 +15,7 @@ loop-i-preserved c =
     let a = at.args in
     let het = a.settings.snp in
     let sd = a.settings.standard_deviation in
-    simp (c.ln_prior.ensures, at.snp_pseudocount-snp_pc.ensures, at.ref_pseudocount-ref_pc.ensures)
+    simp (c.log10_prior.ensures, at.snp_pseudocount-snp_pc.ensures, at.ref_pseudocount-ref_pc.ensures)
     (up_to-turn (unnormalized (length a.gl.now - 1) (ref_pseudocount het sd) (snp_pseudocount het sd)) _ _ _ nan at.loop-i.invariant (omega arith))
 
 pub returns : goal.returns
