@@ -50,6 +50,9 @@ pub fn try_pop_next_ready_region(
     ))
 }
 
+// The functions below call the sizes `least` and `most`, as the definitions do, and the public one has the Rust's names. Extension, sizes
+// and force are arguments: a struct of them would be made in the public function alone, and no contract would be shorter by it.
+
 // The first refusal that applies to a pop, in document 01's order, with so many cells lent.
 #[tactic(auto, using(std::proofs::lemmas::Bool::Decides::nat_tests), unfolding(activity_profile::specs::Pop::pop_verdict))]
 fn pop_verdict(
@@ -207,10 +210,7 @@ fn find_best_cut_site(states: &[f64], least: usize, most: usize) -> usize
             best = Some(i);
         }
     }
-    match best {
-        Some(i) => i + 1,
-        None => most,
-    }
+    best.map_or(most, |i| i + 1)
 }
 
 // Whether the cell at `index` lies below the best minimum so far, where there is one, and is a minimum.
@@ -219,11 +219,7 @@ fn is_better(states: &[f64], index: usize, best: Option<usize>) -> bool
     requires { (index < length states.now) × (cut_size best ≤ length states.now) }
     ensures { result ≡ beats states.now index (cut_size best) }
 {
-    let lower = match best {
-        Some(best) => states[index] < states[best],
-        None => true,
-    };
-    lower & is_minimum(states, index)
+    best.is_none_or(|best| states[index] < states[best]) & is_minimum(states, index)
 }
 
 // Whether the cell is neither first nor last held, at most its right neighbour and strictly below its left. Its neighbours

@@ -1,5 +1,7 @@
 -- `find_best_cut_site` meets its contract: what is left of the scan, done from here with the best so far, is the whole scan.
-use Prim.Native.Nat.{suc, ◌-◌}
+use Prim.Native.Nat.{ℕ, suc, ◌-◌, ◌+◌}
+use Rattle.std.specs.Prelude.{Option, None, Some, MatchOption}
+use Rattle.std.proofs.Common.{rules}
 use mathlib.Core.Path.{◌∙◌, ◌≡◌, ap, refl, sym}
 use native.Mathlib.Omega.{arith}
 use Rattle.activity_profile.proofs.Cases.{better_below, better_keeps, better_takes}
@@ -35,10 +37,11 @@ whole c =
     let a = c.args in
     sym (better_below a.states.now a.least c.loop-i.i (cut_size c.loop-i.best) (omega arith)) ∙ c.loop-i.invariant.1
 
-pub returns-in-Some : goal.returns-in-Some
+-- the size of the best minimum, where there is one, else max
+size-by : (best : Option ℕ) (size most : ℕ) (Size : ℕ → Type 0) → ((i : ℕ) → Size i → size ≡ i + 1) → MatchOption best (size ≡ most) Size → size ≡ or_most most (cut_size best)
 unfolding or_most
-returns-in-Some c = rw (← whole (goal.at.returns-in-Some c).After-loop-i, c.in-Some.is) (omega arith)
+size-by None size most Size is e = e
+size-by (Some i) size most Size is e = omega (arith, is i e)
 
-pub returns-in-None : goal.returns-in-None
-unfolding or_most
-returns-in-None c = rw (← whole (goal.at.returns-in-None c).After-loop-i, c.in-None.is) refl
+pub returns : goal.returns
+returns c = rw (← whole (goal.at.returns c).After-loop-i) (size-by c.loop-i.best c.map_or.result c.args.most _ (λ i q. search rules) c.map_or.ensures)
