@@ -15,8 +15,8 @@ pub fn fill_contribution_table(table: &mut [f64], params: HaplotypeCallerActivit
     if table.len() < n {
         return;
     }
-    for j in 0..n {
-        table[j] = cell_at(j, params);
+    for (j, x) in table[..n].iter_mut().enumerate() {
+        *x = cell_at(j, params);
     }
 }
 

@@ -135,8 +135,8 @@ pub fn fill_log10_priors(
         snp: snp_heterozygosity,
         standard_deviation: heterozygosity_standard_deviation,
     };
-    for j in 0..n {
-        priors[j] = prior_at(j, ploidy, settings);
+    for (j, x) in priors[..n].iter_mut().enumerate() {
+        *x = prior_at(j, ploidy, settings);
     }
 }
 

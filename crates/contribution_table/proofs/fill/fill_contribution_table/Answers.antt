@@ -1,32 +1,37 @@
 -- `fill_contribution_table` meets its contract: the cells before j are filled.
-use Rattle.std.proofs.Common.{◌≡◌, ℕ, ◌<◌, length, sym, refl, ◌∙◌, subst, arith, length-set, le-ltb, lt-ltb}
-use lib.Ieee.{nan}
+use Rattle.std.proofs.Common.{◌≡◌, ℕ, suc, zero, ◌<◌, ◌++◌, List, [], ◌∷◌, length, take, drop, ap, sym, refl, ◌∙◌, subst, arith, le-ltb, lt-ltb}
+use Rattle.std.proofs.lemmas.List.{length-take-le}
+use lib.Ieee.{Float, nan}
 use Rattle.contribution_table.specs.Table.{filled, ploidy_of, table_length, tabled}
-use Rattle.lists.specs.Each.{up_to_put, up_to-rest, up_to_zero}
+use Rattle.lists.specs.Each.{up_to, up_to_put, up_to-rest, up_to_zero}
 use Rattle.contribution_table.proofs.fill.fill_contribution_table.Goals as goal
+
+-- what is written over the front of a list, with what is behind it
+up_to_front : (f : ℕ → Float → Float) (n : ℕ) (l : List Float) → (up_to f n (take n l) ++ drop n l) ≡ up_to f n l
+unfolding up_to
+up_to_front f zero l = refl
+up_to_front f (suc n) [] = refl
+up_to_front f (suc n) (x ∷ l) = ap (λ (t : List Float). f 0 x ∷ t) (up_to_front (λ k. f (suc k)) n l)
 
 pub returns-then-table-n : goal.returns-then-table-n
 unfolding filled
 returns-then-table-n c = simp (lt-ltb _ _ (subst (λ (m : ℕ). length c.args.table.now < m) c.table_length-n.ensures c.if-table-n.true))
 
 pub loop-j-init : goal.loop-j-init
-loop-j-init c = record { same_length = refl; filled = sym (up_to_zero _ _) }
+loop-j-init c = sym (up_to_zero _ _)
 
 pub cell_at-requires : goal.cell_at-requires
-cell_at-requires c = rw (← c.table_length-n.ensures) c.loop-j-test.true
+cell_at-requires c =
+    let wide = length-take-le c.table_length-n.result c.args.table.now c.if-table-n.false in
+    rw (← c.table_length-n.ensures) (omega (arith, wide, c.loop-j-test.true))
 
 pub loop-j-preserved : goal.loop-j-preserved
 loop-j-preserved c =
     let at = c in
     let a = at.args in
-    let below : at.loop-j.j < table_length (ploidy_of a.params) = rw (← at.table_length-n.ensures) c.loop-j-test.true in
-    record {
-      same_length = simp length-set at.loop-j.invariant.same_length;
-      filled = up_to_put (tabled a.params) at.loop-j.j _ _ nan _ at.loop-j.invariant.filled (omega arith) (simp (lt-ltb _ _ below) c.cell_at.ensures);
-    }
-
-pub shape_of-table : goal.shape_of-table
-shape_of-table c = c.loop-j.invariant.same_length
+    let wide = length-take-le at.table_length-n.result a.table.now c.if-table-n.false in
+    let below : at.loop-j.j < table_length (ploidy_of a.params) = rw (← at.table_length-n.ensures) (omega (arith, wide, c.loop-j-test.true)) in
+    up_to_put (tabled a.params) at.loop-j.j _ _ nan _ at.loop-j.invariant c.loop-j-test.true (simp (lt-ltb _ _ below) c.cell_at.ensures)
 
 pub returns : goal.returns
 unfolding filled
@@ -34,6 +39,9 @@ returns c =
     let at = c in
     let a = at.args in
     let n = at.table_length-n.ensures in
-    let done : at.loop-j.j ≡ table_length (ploidy_of a.params) = omega (arith, n) in
+    let rule = tabled a.params in
+    let wide = length-take-le at.table_length-n.result a.table.now at.if-table-n.false in
+    let done : at.loop-j.j ≡ at.table_length-n.result = omega (arith, wide) in
     simp (le-ltb (length a.table.now) (table_length (ploidy_of a.params)) (omega (arith, n)))
-    (at.loop-j.invariant.filled ∙ up_to-rest (tabled a.params) _ a.table.now (λ k x h. simp (le-ltb k (table_length (ploidy_of a.params)) (omega arith))))
+    (rw (at.loop-j.invariant, done) (up_to_front rule at.table_length-n.result a.table.now)
+    ∙ up_to-rest rule at.table_length-n.result a.table.now (λ k x h. simp (le-ltb k (table_length (ploidy_of a.params)) (omega (arith, n)))))
