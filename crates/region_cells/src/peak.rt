@@ -4,7 +4,8 @@ ghost use Rattle.lists.specs.Loops.{along};
 ghost use Rattle.activity_profile.specs.Peak.{leads, peak_index};
 
 // The index of the peak of a region's cells: the first cell leads, even a NaN, and a later one only if strictly above the leader. Four
-// cells have their turns at once: mostly none of them is above the leader, and one test tells.
+// cells have their turns at once: mostly none of them is above the leader, and one test tells. By index, since the leader is a place
+// among all the cells, and a chunk of four does not say where it stands.
 pub fn peak_index(cells: &[f64]) -> usize
     ensures { result ≡ peak_index cells.now }
 {
