@@ -63,7 +63,7 @@ fn with_count(r: RunningMean, clip_bases: u32) -> RunningMean
     ensures { result ≡ with_count r clip_bases }
 {
     let count = r.count + 1;
-    let step = (clip_bases as f64 - r.mean) / std::num::nearest_u64_to_f64(count);
+    let step = (f64::from(clip_bases) - r.mean) / std::num::nearest_u64_to_f64(count);
     RunningMean {
         count,
         mean: r.mean + step,

@@ -84,7 +84,7 @@ fn state_of(
 ) -> ActivityProfileState
     ensures { result ≡ state_by tables.entry.contributions.now tables.entry.priors.now contig pos pile.now params }
 {
-    if pile.len() == 0 {
+    if pile.is_empty() {
         return ActivityProfileState {
             contig,
             pos,
@@ -146,7 +146,7 @@ fn activity_in_array<const N: usize>(
     ensures { result ≡ activity_by tables.entry.contributions.now tables.entry.priors.now pile.now params }
 {
     let mut gl = [0.0; N];
-    let n = params.sample_ploidy.0 as usize + 1;
+    let n = usize::from(params.sample_ploidy.0) + 1;
     activity_in(&mut gl[..n], pile, params, tables)
 }
 

@@ -31,7 +31,7 @@ pub fn table_length(ploidy: Ploidy) -> usize
 pub fn row_length(ploidy: Ploidy) -> usize
     ensures { (result ≡ row_length ploidy.0) × (result ≤ 256) }
 {
-    ploidy.0 as usize / 4 * 4 + 4
+    usize::from(ploidy.0) / 4 * 4 + 4
 }
 
 // What stands at a place of the table: the two settings that it carries, then the rows.
@@ -42,7 +42,7 @@ fn cell_at(j: usize, params: HaplotypeCallerActivityScoringParams) -> f64
 {
     let p = params.sample_ploidy;
     match j {
-        0 => p.0 as f64,
+        0 => f64::from(p.0),
         1 => params.active_region_alt_multiplier,
         _ => entry_at(j - HEADING, params),
     }
@@ -59,7 +59,7 @@ fn entry_at(j: usize, params: HaplotypeCallerActivityScoringParams) -> f64
     if j < ROWS * n {
         return cell_of(j / n, j % n, params);
     }
-    elementary::log10(p.0 as f64)
+    elementary::log10(f64::from(p.0))
 }
 
 // What a row's observation adds to a genotype.

@@ -128,9 +128,9 @@ fn row_of(qual: u8, is_alt: bool) -> usize
     ensures { (result ≡ qual * 2 + cond is_alt 1 0) × (result < 510) }
 {
     if is_alt {
-        return qual as usize * 2 + 1;
+        return usize::from(qual) * 2 + 1;
     }
-    qual as usize * 2
+    usize::from(qual) * 2
 }
 
 // The sum at a place in the four.

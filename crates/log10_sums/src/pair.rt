@@ -44,7 +44,7 @@ fn jacobian_log_table_get(diff: f64) -> f64
 fn jacobian_entry(k: u32) -> f64
     ensures { result ≡ jacobian_entry k }
 {
-    elementary::log10(1.0 + elementary::ten_to(-(k as f64) * 0.0001))
+    elementary::log10(1.0 + elementary::ten_to(-f64::from(k) * 0.0001))
 }
 
 #[tactic(auto, unfolding(crate::specs::Pair::fast_round_java))]

@@ -152,7 +152,7 @@ fn total_of(lengths: &[u32]) -> usize
 {
     let mut sum = 0;
     for n in lengths {
-        sum = sum + *n as usize;
+        sum += *n as usize;
     }
     sum
 }
