@@ -31,8 +31,8 @@ impl Side {
             | self.is_other(cells[i + 3])
     }
 
-    // How many cells are on this side, four at a time: none of them is the first on the other. By index: behind `chunks_exact(4)`, with
-    // `take_while` and `count`, the clause stays open, and its proof was not found.
+    // How many cells are on this side, four at a time: none of them is the first on the other. By index: with
+    // `chunks_exact(4)`, `take_while` and `count` the check does not prove the clause by itself, as it proves all but one step here.
     fn fours(self, cells: &[f64]) -> usize
         ensures { (result ≤ length cells.now)
             × (result + first_at (other_side self.threshold self.active) (drop result cells.now)
