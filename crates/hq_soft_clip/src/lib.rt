@@ -93,7 +93,8 @@ fn clip(w: Walk, end: usize, qualities: &[u8]) -> Walk
     }
 }
 
-// How many of the qualities are strictly above 28 and not missing. The definition count_high is this fold, without a branch for a quality.
+// How many of the qualities are strictly above 28 and not missing. The definition count_high is this fold, and with_base
+// its turn.
 fn count_high(qualities: &[u8]) -> u64
     ensures { result ≡ count_high qualities.now }
 {

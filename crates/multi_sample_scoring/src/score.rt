@@ -145,7 +145,8 @@ fn calculate_multi_sample_any_non_ref_posterior(
     1.0 - inactive_prob
 }
 
-// What the lengths add up to. So few of them do not pass 2 to the 38.
+// What the lengths add up to. So few of them do not pass 2 to the 38. A loop: of a `sum` over a
+// `map` a proof is told how it runs, and not that it is the definition total.
 fn total_of(lengths: &[u32]) -> usize
     requires { length lengths.now ≤ max_piles }
     ensures { result ≡ total lengths.now }
