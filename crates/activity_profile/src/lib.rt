@@ -7,7 +7,7 @@
 use genome::{GenomePosition, Refusal};
 
 // What a locus was scored on: bases alone, or a count of clipped bases. Document 01's two kinds of evidence, with the names that the Rust
-// gives them, in place of an Option.
+// gives them, in place of an Option: `super_states` and `evidence_of` speak of them.
 #[derive(Clone, Copy)]
 pub enum ActivityEvidence {
     Plain,

@@ -29,7 +29,8 @@ pub struct Activity {
 }
 
 // The tables that scoring reads, of any length and content. The settings of a call stay beside them: a table carries
-// settings of its own, and may be filled for others.
+// settings of its own, and may be filled for others. A struct of both would be made in each public function, which take them so
+// (`activity_of`, the two `.._by_tables`), and taken apart in each clause.
 #[derive(Clone, Copy)]
 pub struct ScoringTables<'a> {
     pub contributions: &'a [f64],

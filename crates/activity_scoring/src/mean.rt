@@ -1,5 +1,5 @@
 // The running mean of clip counts.
-ghost use Rattle.std.specs.Prelude.{◌≡◌, ◌<◌, false};
+ghost use Rattle.std.specs.Prelude.{◌≡◌, ◌-◌, ◌^◌, ◌<◌, false};
 ghost use Rattle.std.specs.List.{fold};
 ghost use Rattle.activity_scoring.specs.Mean.{next_to_clip, or_next_to_clip, with_count, with_word, mean_of};
 
@@ -44,9 +44,10 @@ fn is_next_to_clip(w: u32) -> bool
     w / NEXT_TO_CLIP % 4 == 3
 }
 
+// The mean with a word more. Its count is a count of a slice's words: the loop knows that it is not the largest.
 #[tactic(auto, unfolding(crate::specs::Mean::with_word))]
 fn with_word(r: RunningMean, w: u32, params: HaplotypeCallerActivityScoringParams) -> RunningMean
-    requires { r.count < 18446744073709551615 }
+    requires { r.count < 2 ^ 64 - 1 }
     ensures { result ≡ with_word params r w }
 {
     let obs = PileupObservation::from_word(w);
@@ -59,7 +60,7 @@ fn with_word(r: RunningMean, w: u32, params: HaplotypeCallerActivityScoringParam
 }
 
 fn with_count(r: RunningMean, clip_bases: u32) -> RunningMean
-    requires { r.count < 18446744073709551615 }
+    requires { r.count < 2 ^ 64 - 1 }
     ensures { result ≡ with_count r clip_bases }
 {
     let count = r.count + 1;

@@ -10,11 +10,19 @@ use std::num::f64_from_bits_with_nan;
 pub fn length_at(words: &[u64], i: usize) -> usize
     ensures { result ≡ min (slice_index words.now i) 1024 }
 {
-    word_at(words, i).min(1024) as usize
+    length_within(words, i, 1024)
+}
+
+// The length in word i, at most `most`.
+pub fn length_within(words: &[u64], i: usize, most: usize) -> usize
+    ensures { result ≡ min (slice_index words.now i) most }
+{
+    word_at(words, i).min(most as u64) as usize
 }
 
 // The doubles from word `at` on. Here and in `filled` a loop: by `std::array::from_fn` the proof of the clause, which is by
-// `tabulate`, did not close.
+// `tabulate`, did not close. The two are not one function over a closure: it would ask that the closure can be called, and say
+// of each entry what the closure answers, which is longer than a loop more.
 pub fn doubles_from(words: &[u64], at: usize) -> [f64; 1024]
     ensures { result ≡ tabulate (double_at words.now at) 1024 }
 {

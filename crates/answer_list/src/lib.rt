@@ -8,7 +8,7 @@ mod functions;
 mod read;
 mod words;
 
-pub use arrays::{doubles_from, filled, length_at};
+pub use arrays::{doubles_from, filled, length_at, length_within};
 pub use functions::{FUNCTIONS, Function, UnknownFunction};
 pub use read::read_answer;
 use std::io;

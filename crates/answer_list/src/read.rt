@@ -34,10 +34,8 @@ fn read_words<R: io::Read>(reader: &mut R, words: &mut [u64], n: usize) -> Resul
     ensures same_length { length words.new ≡ length words.old }
     ensures err { OnErr result (Begun words.old words.new) }
 {
-    // By index: where a read fails, the clause `Begun` speaks of the place that it came to.
-    for i in 0..n {
-        let w = read_word(reader)?.ok_or(ReadError::Malformed)?;
-        words[i] = w;
+    for w in words[..n].iter_mut() {
+        *w = read_word(reader)?.ok_or(ReadError::Malformed)?;
     }
     Ok(())
 }

@@ -25,6 +25,7 @@ impl BandPassActivityProfileParams {
 
     // Writes the full kernel to `full`, and the kernel to `narrow` where it is a narrower one, and answers its filter size.
     // Refuses a setting outside its range, then a buffer shorter than 2 × max_filter_size + 1; a refusal writes nothing.
+    // Two slices and no struct: C lends them so, and the clauses full_after and narrow_after are of each.
     #[tactic(auto, using(std::proofs::lemmas::Bool::Decides::nat_tests), unfolding(crate::specs::Resolve::resolution, crate::specs::Resolve::accepted, crate::specs::Resolve::full_after, crate::specs::Resolve::narrow_after))]
     pub fn resolved_filter_and_kernel(
         self,

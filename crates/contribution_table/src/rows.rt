@@ -1,5 +1,5 @@
 // The rows of a table that serves some settings, and the sums of a pile by them.
-ghost use Rattle.std.specs.Prelude.{◌≡◌, ◌+◌, ◌*◌, ◌/◌, ◌%◌, ◌<◌, ◌≤◌, cond, length};
+ghost use Rattle.std.specs.Prelude.{◌≡◌, ◌+◌, ◌-◌, ◌*◌, ◌/◌, ◌%◌, ◌^◌, ◌<◌, ◌≤◌, cond, length};
 ghost use Rattle.std.specs.List.{fold};
 ghost use Rattle.lists.specs.Each.{tabulate};
 ghost use Rattle.genome.specs.Ranges.{missing_quality};
@@ -69,7 +69,7 @@ impl<'a> Rows<'a> {
         sums
     }
 
-    // The sums of genotypes i to i + 3.
+    // The sums of genotypes i to i + 3. Their i is a place, from sums_at: a type of it would be taken apart at each index.
     fn sums_from(&self, pile: &[u32], i: usize) -> Sums
         requires { i + 4 ≤ self.now.row }
         ensures { result ≡ sums_from self.now.entries.now self.now.params pile.now i }
@@ -81,9 +81,10 @@ impl<'a> Rows<'a> {
         sums
     }
 
-    // The sums with a word more, which is skipped or adds its row's entries.
+    // The sums with a word more, which is skipped or adds its row's entries. Its count is a count of a slice's words: the loop
+    // knows that it is not the largest.
     fn with_word(&self, sums: Sums, w: u32, i: usize) -> Sums
-        requires { (sums.count < 18446744073709551615) × (i + 4 ≤ self.now.row) }
+        requires { (sums.count < 2 ^ 64 - 1) × (i + 4 ≤ self.now.row) }
         ensures { result ≡ all_taken self.now.entries.now self.now.params i sums w }
     {
         let obs = PileupObservation::from_word(w);
@@ -102,6 +103,7 @@ impl<'a> Rows<'a> {
     }
 }
 
+// The sums before the first word: the definition no_sums.
 fn no_sums() -> Sums
     ensures { result ≡ no_sums }
 {

@@ -29,7 +29,7 @@ fn series(t: f64) -> f64
 {
     let mut s = 1.0;
     for k in (1..=18u32).rev() {
-        s = 1.0 + (t * s) / (k as f64);
+        s = 1.0 + (t * s) / f64::from(k);
     }
     s
 }
@@ -40,7 +40,7 @@ fn squared(x: f64) -> f64
 {
     let mut s = x;
     for _ in 0..10u32 {
-        s = s * s;
+        s *= s;
     }
     s
 }

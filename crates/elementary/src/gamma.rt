@@ -24,7 +24,7 @@ pub fn ln_gamma(x: f64) -> f64
     f64::NAN
 }
 
-// "c = 0, while x < 16 add ln x to c and 1 to x"
+// "c = 0, while x < 16 add ln x to c and 1 to x": a loop of its own, as at logarithm's scale_down.
 fn shift(from: f64) -> Shifted
     ensures { result ≡ shifted from }
 {

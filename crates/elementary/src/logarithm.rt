@@ -34,7 +34,8 @@ pub fn log10(x: f64) -> f64
     ln(x) * LOG10_E
 }
 
-// y halved until it is below 2.
+// y halved until it is below 2. This loop, scale_up's and gamma's shift are three and no one function of `until`: each counts
+// into another field and ends otherwise, and one function of them would take closures as long as the loops.
 fn scale_down(y: f64) -> Scaled
     ensures { (result ≡ halved y) × (result.halvings ≤ 1074) × (result.doublings ≡ 0) }
 {
@@ -56,7 +57,7 @@ fn scale_down(y: f64) -> Scaled
     }
 }
 
-// s doubled until it is 1 at least.
+// s doubled until it is 1 at least: a loop of its own, as at scale_down.
 fn scale_up(s: Scaled) -> Scaled
     requires { s.doublings ≡ 0 }
     ensures { result ≡ until from1 double max_scalings s }
@@ -88,7 +89,7 @@ fn ln_scaled(c: Scaled) -> f64
     let s = series(z * z);
     let halvings = c.halvings;
     let doublings = c.doublings;
-    let k = halvings as f64 - doublings as f64;
+    let k = f64::from(halvings) - f64::from(doublings);
     k * 0.6931471805599453 + 2.0 * (z * s)
 }
 
@@ -99,7 +100,7 @@ fn series(u: f64) -> f64
     let mut s = 1.0 / 35.0;
     for i in (1..=17u32).rev() {
         let j = 2 * i - 1;
-        s = 1.0 / (j as f64) + u * s;
+        s = 1.0 / f64::from(j) + u * s;
     }
     s
 }

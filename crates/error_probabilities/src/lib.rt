@@ -34,8 +34,9 @@ pub fn error_probability(patterns: &[u64; QUALITIES], qual: u8) -> f64
 }
 
 // By document 01's steps, for the table's generator and for what has no entry.
+#[tactic(auto, unfolding(crate::specs::ErrorProb::error_prob))]
 pub fn error_probability_by_steps(qual: u8) -> f64
     ensures { result ≡ error_prob qual }
 {
-    elementary::ten_to(-(qual as f64) / 10.0)
+    elementary::ten_to(-f64::from(qual) / 10.0)
 }

@@ -19,7 +19,8 @@ pub const MAX_POSITION: u32 = 1_073_741_823;
 // The byte that SAM has where a base has no quality: document 02, U3.
 pub const MISSING_QUALITY: u8 = 255;
 
-// Document 01's refusals, and document 02's: the error of every call that may be refused.
+// Document 01's refusals, and document 02's: the error of every call that may be refused. No Display: it is printed and handed
+// out as its number.
 #[derive(Clone, Copy, Debug, PartialEq, Eq)]
 pub enum Refusal {
     // A setting outside its range.

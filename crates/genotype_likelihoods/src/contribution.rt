@@ -1,5 +1,5 @@
 // What one observation contributes to one genotype: a function of its quality, whether it is alternate, the genotype and the ploidy alone.
-ghost use Rattle.std.specs.Prelude.{◌≡◌, if◌then◌else◌};
+ghost use Rattle.std.specs.Prelude.{◌≡◌};
 ghost use Rattle.genotype_likelihoods.specs.Contribution.{error_prob, qual_to_prob_log10, qual_to_error_prob_log10_third};
 ghost use Rattle.genotype_likelihoods.specs.Contribution.{log10_whole, contribution_of};
 
@@ -12,8 +12,8 @@ pub fn genotype_contribution(qual: u8, is_alt: bool, genotype: usize, ploidy: Pl
 {
     let right = qual_to_prob_log10(qual);
     let wrong = qual_to_error_prob_log10_third(qual);
-    let reference_likelihood = pick(is_alt, wrong, right);
-    let non_ref_likelihood = pick(is_alt, right, wrong);
+    let reference_likelihood = if is_alt { wrong } else { right };
+    let non_ref_likelihood = if is_alt { right } else { wrong };
     let n = u64::from(ploidy.0);
     let i = genotype as u64;
     if i == 0 {
@@ -27,7 +27,8 @@ pub fn genotype_contribution(qual: u8, is_alt: bool, genotype: usize, ploidy: Pl
     log10_sums::approximate_log10_sum_log10_pair(r, a)
 }
 
-// The probability that a base of this quality is wrong.
+// The probability that a base of this quality is wrong. It stays beside error_probabilities' own: the edit error_above_one
+// stands on it.
 #[tactic(auto, unfolding(crate::specs::Contribution::error_prob, error_probabilities::specs::ErrorProb::error_prob))]
 pub fn error_prob(qual: u8) -> f64
     ensures { result ≡ error_prob qual }
@@ -55,10 +56,4 @@ fn log10_whole(n: u64) -> f64
     ensures { result ≡ log10_whole n }
 {
     elementary::log10(std::num::nearest_u64_to_f64(n))
-}
-
-fn pick(b: bool, x: f64, y: f64) -> f64
-    ensures { result ≡ (if b then x else y) }
-{
-    if b { x } else { y }
 }

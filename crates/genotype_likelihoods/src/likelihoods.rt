@@ -1,5 +1,5 @@
 // The likelihoods of every genotype over a whole pile.
-ghost use Rattle.std.specs.Prelude.{◌≡◌, ◌<◌, cond, length};
+ghost use Rattle.std.specs.Prelude.{◌≡◌, ◌<◌, ◌-◌, ◌^◌, cond, length};
 ghost use Rattle.std.specs.List.{fold};
 ghost use Rattle.lists.specs.Each.{each};
 ghost use Rattle.doubles.specs.Constants.{one_f};
@@ -40,10 +40,10 @@ fn take_words(gl: &mut [f64], pile: &[u32], params: HaplotypeCallerActivityScori
     n
 }
 
-// One word: skipped, or added to every genotype.
+// One word: skipped, or added to every genotype. n is a count of a slice's words, so below the largest: the loop knows it.
 #[tactic(auto, unfolding(crate::specs::Likelihoods::taken, crate::specs::Likelihoods::counted))]
 fn take_word(gl: &mut [f64], n: u64, w: u32, params: HaplotypeCallerActivityScoringParams) -> u64
-    requires { n < 18446744073709551615 }
+    requires { n < 2 ^ 64 - 1 }
     ensures value { result ≡ counted params n w }
     ensures gl_after { gl.new ≡ taken params gl.old w }
 {

@@ -1,5 +1,5 @@
-// Which observations are skipped, and by what quality. Free functions, as the Rust's. Each caller asks both after from_word, since the
-// definitions counted, all_taken and with_word do: an Option of both would be taken apart by each at once.
+// Which observations are skipped, and by what quality. Free functions, as the Rust's. Each caller asks both: two need the
+// quality behind it (gain, and contribution_table's place_of), and one the clip count, so one function of both is no plainer.
 ghost use Rattle.std.specs.Prelude.{◌≡◌};
 ghost use Rattle.genotype_likelihoods.specs.Observation.{effective_qual, lacks_quality, skips};
 

@@ -1,5 +1,5 @@
 // The probability that a sample is not all reference.
-ghost use Rattle.std.specs.Prelude.{◌≡◌, ◌-◌, ◌<◌, ◌≤◌, length};
+ghost use Rattle.std.specs.Prelude.{◌≡◌, ◌-◌, ◌^◌, ◌<◌, ◌≤◌, length};
 ghost use Rattle.std.specs.Float.{binary64};
 ghost use Rattle.std.specs.Float.Ieee.{mul};
 ghost use Rattle.elementary.specs.Ln.{log10_e};
@@ -54,7 +54,8 @@ pub fn calculate_single_sample_biallelic_non_ref_posterior(
 }
 
 // Each likelihood with the log10 of its genotype's prior added, which is worked out. That there is a genotype stands in four contracts:
-// the ploidy is one less than their number.
+// the ploidy is one less than their number. A type of a slice that is not empty would be made by each of the two public functions,
+// and read as a slice in every line.
 fn write_unnormalized(gl: &mut [f64], settings: Heterozygosity)
     requires { 0 < length gl.old }
     ensures { gl.new ≡ unnormalized_all settings.snp settings.standard_deviation gl.old }
@@ -67,9 +68,10 @@ fn write_unnormalized(gl: &mut [f64], settings: Heterozygosity)
     }
 }
 
-// log10 of the prior of n copies of the alternate.
+// log10 of the prior of n copies of the alternate. The ploidy is one less than a slice's length, or 8 bits wide: its callers
+// know that it is not the largest number.
 fn log10_prior(ploidy: u64, n: u64, ref_pc: f64, snp_pc: f64) -> f64
-    requires { (n ≤ ploidy) × (ploidy < 18446744073709551615) }
+    requires { (n ≤ ploidy) × (ploidy < 2 ^ 64 - 1) }
     ensures { result ≡ mul binary64 (ln_prior ploidy ref_pc snp_pc n) log10_e }
 {
     ln_prior(ploidy, n, ref_pc, snp_pc) * elementary::LOG10_E
@@ -78,7 +80,7 @@ fn log10_prior(ploidy: u64, n: u64, ref_pc: f64, snp_pc: f64) -> f64
 // The natural logarithm of the prior of n copies of the alternate.
 #[tactic(auto, unfolding(crate::specs::Posterior::ln_prior))]
 fn ln_prior(ploidy: u64, n: u64, ref_pc: f64, snp_pc: f64) -> f64
-    requires { (n ≤ ploidy) × (ploidy < 18446744073709551615) }
+    requires { (n ≤ ploidy) × (ploidy < 2 ^ 64 - 1) }
     ensures { result ≡ ln_prior ploidy ref_pc snp_pc n }
 {
     let copies = std::num::nearest_u64_to_f64(n);
@@ -92,7 +94,7 @@ fn ln_prior(ploidy: u64, n: u64, ref_pc: f64, snp_pc: f64) -> f64
 // The natural logarithm of n over k.
 #[tactic(auto, unfolding(crate::specs::Posterior::log_binomial))]
 fn log_binomial_coefficient_natural(n: u64, k: u64) -> f64
-    requires { (k ≤ n) × (n < 18446744073709551615) }
+    requires { (k ≤ n) × (n < 2 ^ 64 - 1) }
     ensures { result ≡ log_binomial n k }
 {
     let a = elementary::ln_gamma(std::num::nearest_u64_to_f64(n + 1));
@@ -223,6 +225,7 @@ fn are_for(priors: &[f64], genotypes: usize, settings: Heterozygosity) -> bool
     copies & (mean & spread)
 }
 
+// By index: with `zip` the loop has no invariant that speaks of the slice that is written.
 fn add_priors(gl: &mut [f64], priors: &[f64])
     requires { length priors.now ≡ length gl.old }
     ensures { gl.new ≡ each (with_prior priors.now) gl.old }

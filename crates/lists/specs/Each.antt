@@ -1,5 +1,5 @@
 -- A loop that writes every element of a slice from the front: element k becomes f k of what it was.
-use Rattle.std.specs.Prelude.{◌≡◌, length, get_or, set, take, replicate}
+use Rattle.std.specs.Prelude.{◌≡◌, ◌++◌, length, get_or, set, take, drop, replicate}
 use Rattle.std.proofs.Math.Path.{refl, ap}
 use mathlib.Core.List.{List, [], ◌∷◌}
 use Prim.Native.Nat.{ℕ, zero, suc, ◌+◌, ◌<◌, ◌≤◌, zero-le, suc-le-suc}
@@ -74,6 +74,13 @@ module _ {A : Type 0} where
   up_to-rest f zero (x ∷ l) h = rw (h 0 x (zero-le)) (ap (λ (t : List A). x ∷ t) (up_to-rest (λ k. f (suc k)) zero l (λ k y _. h (suc k) y (zero-le))))
   up_to-rest f (suc n) [] h = refl
   up_to-rest f (suc n) (x ∷ l) h = ap (λ (t : List A). f 0 x ∷ t) (up_to-rest (λ k. f (suc k)) n l (λ k y q. h (suc k) y (suc-le-suc q)))
+
+  -- the first n elements rewritten, with what is behind them
+  pub up_to_front : (f : ℕ → A → A) (n : ℕ) (l : List A) → up_to f n (take n l) ++ drop n l ≡ up_to f n l
+  unfolding up_to
+  up_to_front f zero l = refl
+  up_to_front f (suc n) [] = refl
+  up_to_front f (suc n) (x ∷ l) = ap (λ (t : List A). f 0 x ∷ t) (up_to_front (λ k. f (suc k)) n l)
 
   -- two rules that agree
   pub each_same : (f g : ℕ → A → A) (l : List A) → ((k : ℕ) (x : A) → f k x ≡ g k x) → each f l ≡ each g l

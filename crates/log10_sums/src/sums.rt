@@ -29,7 +29,8 @@ pub fn log10_sum_log10(values: &[f64]) -> f64
     sum_from(values, m, top)
 }
 
-// The index of the largest value, the first of several; 0 where there is none.
+// The index of the largest value, the first of several; 0 where there is none: a number and no Option, as the clause `value` and the
+// Rust's have it.
 pub fn max_element_index(values: &[f64]) -> usize
     ensures value { result ≡ max_element_index values.now }
     ensures upper_bound { result ≤ length values.now - 1 }

@@ -1,22 +1,37 @@
 -- One turn and the end of the loops over a set's lengths and piles, and that passing over the empty piles on the way is leaving them out before.
 -- Assumes nothing.
-use mathlib.Core.Path.{◌≡◌, refl}
-use Rattle.std.specs.List.{fold, count_by}
-use mathlib.Core.Bool.{Bool, true, false, cond, not}
+use mathlib.Core.Path.{◌≡◌, refl, sym, ◌∙◌}
+use Rattle.std.specs.List.{fold, count_by, sum_by, list_any}
+use mathlib.Core.Bool.{Bool, true, false, cond, not, ◌||◌}
+use Rattle.std.proofs.Math.Bool.{or-false}
 use mathlib.Core.List.{List, [], ◌∷◌, map}
 use Prim.Native.Nat.{ℕ, ◌+◌, ◌≤◌, ◌<◌}
 use native.Mathlib.Numerals.{add-one}
 use native.Mathlib.Omega.{arith}
-use lib.Dec.{eqb}
+use lib.Dec.{eqb, ltb}
 use lib.ListN.{length, get_or, take, drop, drop_of_length-le}
 use lib.Seq.{drop-cons}
 use lib.Ieee.{Float}
+use Rattle.std.proofs.lemmas.List.Recursion.{is_sum_by}
 use Rattle.lists.specs.Folds.{fold-same}
 use Rattle.lists.specs.Without.{without}
 use Rattle.genotype_likelihoods.specs.declared.HaplotypeCallerActivityScoringParams.{HaplotypeCallerActivityScoringParams}
 use Rattle.activity_scoring.specs.Tables.{from_rounded_by, rounded_by}
-use Rattle.multi_sample_scoring.specs.Sets.{piles, total, is_empty, with_sample}
+use Rattle.activity_scoring.specs.Score.{max_depth}
+use Rattle.multi_sample_scoring.specs.Sets.{piles, total, is_empty, with_sample, or_too_deep, any_too_deep}
 use Rattle.multi_sample_scoring.specs.Passed.{with_length, count_left, with_pile}
+
+-- a length that is too deep, among those seen or those to come
+any_from : (b : Bool) (lengths : List ℕ) → fold or_too_deep b lengths ≡ (b || list_any (ltb max_depth) lengths)
+any_from b [] = sym (or-false b)
+any_from b (n ∷ lengths) = any_from (b || ltb max_depth n) lengths ∙ go b
+  where
+    go : (b : Bool) → ((b || ltb max_depth n) || list_any (ltb max_depth) lengths) ≡ (b || (ltb max_depth n || list_any (ltb max_depth) lengths))
+    go true = refl
+    go false = refl
+
+pub any_deep : (lengths : List ℕ) → list_any (λ n. ltb max_depth n) lengths ≡ any_too_deep lengths
+any_deep lengths = sym (any_from false lengths)
 
 -- the lengths that are not 0
 pub counted_left : (lengths : List ℕ) → count_by (λ n. not (eqb n 0)) lengths ≡ count_left lengths
@@ -30,9 +45,10 @@ pub total-turn : (lengths : List ℕ) (i : ℕ) → i < length lengths → total
 unfolding total
 total-turn lengths i h = rw (add-one, drop-cons lengths i 0 h)
 
-pub total_end : (lengths : List ℕ) (i : ℕ) → length lengths ≤ i → total (drop i lengths) ≡ 0
+-- std's sum
+pub summed : (lengths : List ℕ) → sum_by (λ n. n) lengths ≡ total lengths
 unfolding total
-total_end lengths i h = rw (drop_of_length-le lengths {i = i} h)
+summed lengths = sym (is_sum_by total (λ n. n) refl (λ x xs. refl) lengths)
 
 -- what is left of the run begins with the pile that is next
 pub piles-turn : {S : Type 0} (f : S → List ℕ → S) (q : S) (rest lengths : List ℕ) (i : ℕ) → i < length lengths

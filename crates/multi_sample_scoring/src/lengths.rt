@@ -1,16 +1,16 @@
 // The lengths of a set's piles, without its words.
 ghost use Rattle.std.specs.Prelude.{◌≡◌, ltb};
+ghost use Rattle.std.specs.List.{list_any};
 ghost use Rattle.activity_scoring.specs.Score.{max_depth};
-ghost use Rattle.multi_sample_scoring.specs.Sets.{any_too_deep};
 ghost use Rattle.multi_sample_scoring.specs.Passed.{count_left};
 
 use activity_scoring::MAX_DEPTH;
 
-// Whether any pile has too many words. A fold and no `any`: the definition any_too_deep is this fold.
+// Whether any pile has too many words: the definition any_too_deep, by a lemma.
 pub(crate) fn is_any_too_deep(lengths: &[u32]) -> bool
-    ensures { result ≡ any_too_deep lengths.now }
+    ensures { result ≡ list_any (λ n. ltb max_depth n) lengths.now }
 {
-    lengths.iter().fold(false, |any, n| any | is_too_deep(*n))
+    lengths.iter().any(|n| is_too_deep(*n))
 }
 
 fn is_too_deep(n: u32) -> bool

@@ -1,5 +1,6 @@
 // The score of a set.
 ghost use Rattle.std.specs.Prelude.{◌≡◌, ◌≤◌, length};
+ghost use Rattle.std.specs.List.{sum_by};
 ghost use Rattle.genome.specs.Refusals.{outcome_of};
 ghost use Rattle.multi_sample_scoring.specs.Sets.{max_piles, total, set_score_of};
 ghost use Rattle.multi_sample_scoring.specs.Tables.{set_state_by, set_score_by};
@@ -34,7 +35,7 @@ pub fn haplotype_caller_activity_profile_state_multi_sample(
 }
 
 // The same score from tables that `activity_scoring::fill_tables` filled, as for one pile.
-#[tactic(auto, using(std::proofs::lemmas::Bool::Decides::nat_tests), unfolding(crate::specs::Sets::set_score_with))]
+#[tactic(auto, using(crate::proofs::Walk::any_deep, crate::proofs::Walk::summed, std::proofs::lemmas::Bool::Decides::nat_tests), unfolding(crate::specs::Sets::set_score_with))]
 pub fn haplotype_caller_activity_profile_state_multi_sample_by_tables(
     contig: u32,
     pos: GenomePosition,
@@ -145,15 +146,10 @@ fn calculate_multi_sample_any_non_ref_posterior(
     1.0 - inactive_prob
 }
 
-// What the lengths add up to. So few of them do not pass 2 to the 38. A loop: of a `sum` over a
-// `map` a proof is told how it runs, and not that it is the definition total.
+// What the lengths add up to: the definition total, by a lemma. So few of them do not pass 2 to the 38.
 fn total_of(lengths: &[u32]) -> usize
     requires { length lengths.now ≤ max_piles }
-    ensures { result ≡ total lengths.now }
+    ensures { result ≡ sum_by (λ n. n) lengths.now }
 {
-    let mut sum = 0;
-    for n in lengths {
-        sum += *n as usize;
-    }
-    sum
+    lengths.iter().map(|n| *n as usize).sum()
 }

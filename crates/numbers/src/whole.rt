@@ -1,4 +1,4 @@
-// Whole numbers of 64 bits, by the names that the documents' formulas have for them.
+// Whole numbers of 64 bits.
 ghost use Rattle.std.specs.Prelude.{◌≡◌, ◌-◌, min, max};
 
 // a - b, and 0 where b is larger.

@@ -5,7 +5,7 @@ ghost use Rattle.pileup_words.specs.Words.{is_observation, observation};
 use crate::{ALTERNATE, DELETION, KIND, NEXT_TO_CLIP, PileupObservation, QUALITY};
 
 impl PileupObservation {
-    // Whether a word is an observation: of kind 1.
+    // Whether a word is an observation: of kind 1, by number, as the definition is_observation.
     pub fn is_word(w: u32) -> bool
         ensures { result ≡ is_observation w }
     {

@@ -132,19 +132,19 @@ fn lowest_of(p: BandPassActivityProfile, s: ActivityProfileState) -> u64
 // ---- what its cells receive
 
 // Each cell of the window receives its sum, from the kernel's front on: by one addition in the first `held` cells; from there on the sum
-// becomes the next new cell, whatever it held. Two loops, so that neither tests at each cell whether it is held. By
-// index: a proof knows nothing of what a zip over `iter_mut` writes; and with `window[n..].iter_mut().enumerate()` the kernel's entry is the
-// n + k-th, and the proof puts two written parts together, where it is one list here.
+// becomes the next new cell, whatever it held. Two loops, so that neither tests at each cell whether it is held. No zip with the kernel: a
+// proof knows nothing of what a zip over `iter_mut` writes.
 fn spread(window: &mut [f64], kernel: &[f64], s: ActivityProfileState, m: u64, held: usize)
     requires { length window.old ≤ length kernel.now }
     ensures { window.new ≡ each (receiving kernel.now s m held) window.old }
 {
     let n = held.min(window.len());
-    for j in 0..n {
-        window[j] += times_of(m, weight_of(kernel, s, j));
+    let (front, back) = window.split_at_mut(n);
+    for (j, x) in front.iter_mut().enumerate() {
+        *x += times_of(m, weight_of(kernel, s, j));
     }
-    for k in n..window.len() {
-        window[k] = times_of(m, weight_of(kernel, s, k));
+    for (k, x) in back.iter_mut().enumerate() {
+        *x = times_of(m, weight_of(kernel, s, n + k));
     }
 }
 

@@ -31,8 +31,9 @@ impl Side {
             | self.is_other(cells[i + 3])
     }
 
-    // How many cells are on this side, four at a time: none of them is the first on the other. By index: with
-    // `chunks_exact(4)`, `take_while` and `count` the check does not prove the clause by itself, as it proves all but one step here.
+    // How many cells are on this side, four at a time: none of them is the first on the other. By index: `chunks_exact(4)`,
+    // `take_while` and `count` were tried, and the proof of the clause did not close: that the test fails for each four that is
+    // counted, by its place in the cells, was not found.
     fn fours(self, cells: &[f64]) -> usize
         ensures { (result ≤ length cells.now)
             × (result + first_at (other_side self.threshold self.active) (drop result cells.now)

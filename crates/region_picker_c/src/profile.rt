@@ -55,12 +55,12 @@ pub extern "C" fn region_picker_make(
 // Copies the kernel of the profile that a making left in its buffers, 2F + 1 numbers, to the front of `kernel`, and
 // answers 0. Where one of the three slices is too short for it, the answer is 2, and nothing is written.
 #[unsafe(no_mangle)]
-pub extern "C" fn region_picker_kernel<'a>(
+pub extern "C" fn region_picker_kernel(
     kernel: &mut [f64],
     filter_size: u32,
     max_filter_size: u32,
-    full: &'a [f64],
-    narrow: &'a [f64],
+    full: &[f64],
+    narrow: &[f64],
 ) -> u32
     ensures { Copies filter_size max_filter_size kernel.old kernel.new
         full.now narrow.now result }

@@ -121,6 +121,14 @@ impl StreamMemory {
     }
 }
 
+impl Default for StreamMemory {
+    ghost is_default = { λ m. (m.pile ≡ replicate PILE 0) × (m.kernel ≡ replicate KERNEL zero_f) × (m.cells ≡ replicate CELLS zero_f) };
+
+    fn default() -> StreamMemory {
+        StreamMemory::new()
+    }
+}
+
 impl StreamTables {
     // Tables that are not filled yet.
     pub fn new() -> StreamTables
@@ -131,5 +139,13 @@ impl StreamTables {
             contributions: [0.0; TABLE],
             priors: [0.0; PRIORS],
         }
+    }
+}
+
+impl Default for StreamTables {
+    ghost is_default = { λ t. (t.contributions ≡ replicate TABLE zero_f) × (t.priors ≡ replicate PRIORS zero_f) };
+
+    fn default() -> StreamTables {
+        StreamTables::new()
     }
 }

@@ -28,7 +28,7 @@ use Rattle.region_print.specs.declared.Form.{Form}
 use Rattle.region_print.specs.declared.Form.TheVariants.{Listing, Sheet}
 use Rattle.region_print.specs.Forms.{region_text, after_region, end_text, stop_text}
 use Rattle.region_run.specs.declared.RegionRun.{RegionRun}
-use Rattle.region_run.specs.Run.{lines_text, close_text, printed_text, found_text, form_after, is_over, Wrote, BLOCK, Steps, Feeds, Ran, onward, stopped, finishing}
+use Rattle.region_run.specs.Run.{lines_text, close_text, printed_text, found_text, form_after, is_over, Wrote, BLOCK, Steps, Ran, onward, stopped, finishing}
 
 -- ---- one piece
 
@@ -67,9 +67,6 @@ goes_nearer (Ok (Some r)) s t at next e n = n
 goes_nearer (Err y) s t at next e n = absurd (true≢false e)
 
 -- ---- pieces behind each other
-
-pub wrote_none : (scoring : Scoring) (form : Form) (a : Reading) (words : List ℕ) → Wrote scoring false [] form a words form a words
-wrote_none scoring form a words = λ later remainder q h. (q, h, refl)
 
 pub wrote_then : (scoring : Scoring) (o : Bool) (x y : List ℕ) (f₁ f₂ f₃ : Form) (a b c : Reading) (words rest behind : List ℕ) → Wrote scoring false x f₁ a words f₂ b rest
     → Wrote scoring o y f₂ b rest f₃ c behind → Wrote scoring o (x ++ y) f₁ a words f₃ c behind
@@ -114,15 +111,6 @@ pub record So (scoring : Scoring) (r s : RegionRun) (words text : List ℕ) (a b
   pub within : r.at ≤ length words → s.at ≤ length words
   pub moved : Unmoved r s ⊎ Moved r s
 
-pub so_begins : (scoring : Scoring) (r : RegionRun) (words text : List ℕ) (a : Reading) → r.used ≡ 0 → r.over ≡ false → So scoring r r words text a a
-so_begins scoring r words text a u o = record {
-  wrote = rw (u, o) (wrote_none scoring r.form a (drop r.at words));
-  room = omega (arith, u);
-  done = λ h. absurd (true≢false (sym h ∙ o));
-  within = λ h. h;
-  moved = inl (record { same_place = refl; same_stream = refl; none_used = u });
-}
-
 -- a step more, of a run that is not over
 pub so_more : (scoring : Scoring) (r s t : RegionRun) (words text text' : List ℕ) (a b c : Reading) → s.over ≡ false → So scoring r s words text a b → Steps scoring s t words text text' b c
     → So scoring r t words text' a c
@@ -146,15 +134,6 @@ so_open scoring r s words text a b f h = go s.over f.done
     go : (o : Bool) → (o ≡ true → length words ≤ s.at) → o ≡ false
     go true g = absurd (omega (arith, g refl, h))
     go false g = refl
-
--- a call that has ended: with the words done, or with no room for a line more, so that it has moved
-pub so_feeds : (scoring : Scoring) (r s : RegionRun) (words text : List ℕ) (a b : Reading) → So scoring r s words text a b → (r.at < length words → (s.at ≡ r.at → s.used ≡ 0 → ⊥))
-    → Feeds scoring r s words text a b
-so_feeds scoring r s words text a b f n = record { wrote = f.wrote; room = f.room; within = f.within; nearer = λ h. near h f.moved }
-  where
-    near : r.at < length words → Unmoved r s ⊎ Moved r s → Moved r s
-    near h (inl e) = absurd (n h e.same_place e.none_used)
-    near h (inr m) = m
 
 -- ---- a whole run
 

@@ -14,7 +14,7 @@ use region_feed::Found;
 use region_print::Form;
 use region_program::{RegionStream, StreamMemory, StreamTables};
 
-// The bytes of a block's text.
+// The bytes of a block's text. standard_io has one of the same size: region_run does not read or write, and has its own.
 pub const BLOCK: usize = 65536;
 
 // With so many in use there is room for whatever one step prints.

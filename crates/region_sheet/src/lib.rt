@@ -51,7 +51,8 @@ pub fn row_text(
 }
 
 // Writes n right-aligned into the ten columns from `from` on, the last digit first. All up to their end is blank before.
-// Not by region_text's digits: those are a text of their own with no width, and would be copied here into the columns.
+// Not by region_text's digits: those ask for room of 20 in front of their end, and the first column ends at 10. By index:
+// tried by `iter_mut().rev()`, where the loop's invariant has the iterator alone, and not the row.
 fn column(row: &mut [u8; ROW], from: usize, n: u32)
     requires position_columns_bound { from + position_columns ≤ 46 }
     requires row_value { take (from + position_columns) row.old ≡ replicate (from + position_columns) blank }

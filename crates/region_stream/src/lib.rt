@@ -5,8 +5,7 @@
 // structs and not as one: tables are filled once and read by many streams, as replay_lists does, and memory is a stream's own.
 //
 // The functions below `act` ask where the stream stands by a `requires`: a type for each place would hold the same stream,
-// to be taken out of it by each function and put back by most, and so be no plainer. Events that are refused alike have an
-// arm each: one arm for them has a longer proof, which has to tell the events apart again.
+// to be taken out of it by each function and put back by most, and so be no plainer.
 #![tactic(auto)]
 
 ghost use Rattle.std.specs.Prelude.{◌≡◌, ℕ, List, Float};
@@ -90,10 +89,11 @@ fn before_loci(
 {
     match event {
         StreamEvent::Locus { position } => open_first(s, position, kernel),
-        StreamEvent::Observation { word: _ } => Err(refused(s, Refusal::Word, s.index)),
         StreamEvent::Pop { value } => pop_unmade(s, value),
         StreamEvent::Setting { field, value } => set_field(s, field, value),
-        StreamEvent::Remainder => Err(refused(s, Refusal::Word, s.index)),
+        StreamEvent::Observation { word: _ } | StreamEvent::Remainder => {
+            Err(refused(s, Refusal::Word, s.index))
+        }
         StreamEvent::End => Ok(Step::Next(s)),
     }
 }
@@ -190,10 +190,10 @@ fn between_piles(
 {
     match event {
         StreamEvent::Locus { position } => Ok(Step::Next(opened(s, s.profile, position))),
-        StreamEvent::Observation { word: _ } => Err(refused(s, Refusal::Word, s.index)),
         StreamEvent::Pop { value } => pop(s, value, cells),
-        StreamEvent::Setting { field: _, value: _ } => Err(refused(s, Refusal::Word, s.index)),
-        StreamEvent::Remainder => Err(refused(s, Refusal::Word, s.index)),
+        StreamEvent::Observation { word: _ }
+        | StreamEvent::Setting { field: _, value: _ }
+        | StreamEvent::Remainder => Err(refused(s, Refusal::Word, s.index)),
         StreamEvent::End => Ok(Step::Next(s)),
     }
 }

@@ -67,8 +67,8 @@ fn number(text: &mut [u8], at: usize, then: u8, n: u64) -> usize
     digits(text, p, n)
 }
 
-// The digits of n, before the text from `at` on. region_sheet writes digits of its own: there they stand in a column of
-// fixed width and begin nowhere, and here they begin where the number is done.
+// The digits of n, before the text from `at` on. region_sheet writes digits of its own: these ask for room of 20 before `at`,
+// and a public function may ask nothing.
 fn digits(text: &mut [u8], at: usize, n: u64) -> usize
     requires { (20 ≤ at) × (at ≤ length text.old) }
     ensures { Writes 20 (decimal n) text.old at text.new result }

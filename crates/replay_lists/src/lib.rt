@@ -68,7 +68,7 @@ impl Tally {
 // What has been found so far, and the tables that streams are scored by.
 #[derive(Drop)]
 struct Findings {
-    // The functions', in the order of their numbers.
+    // The functions', in the order of their numbers. No map: there is no heap.
     tallies: [Tally; FUNCTIONS],
     // That of answers of other functions, and of lists that are malformed.
     unknown: Tally,

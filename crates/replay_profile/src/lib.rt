@@ -12,13 +12,11 @@ use answer_list::Function;
 
 // Whether the library's results are those of the answer; true of these functions alone. The function is given by its
 // number: the clause says of every number that it is one of these where the answer is true, also of one that is no function's.
+// No crate calls it now; docs/DECISIONS.md speaks of what it agrees to.
 pub fn replay(function: u64, words: &[u64]) -> bool
     ensures { result ≡ true → (10 ≤ function) × (function ≤ 12) }
 {
-    match Function::try_from(function) {
-        Ok(asked) => agrees(asked, words),
-        Err(_) => false,
-    }
+    Function::try_from(function).is_ok_and(|asked| agrees(asked, words))
 }
 
 // Whether the library's results are those of an answer of that function; true of these functions alone.

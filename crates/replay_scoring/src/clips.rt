@@ -15,7 +15,8 @@ pub(crate) fn clip_count(words: &[u64]) -> bool {
     }
 }
 
-// The 32-bit numbers from word `at` on.
+// The 32-bit numbers from word `at` on. It and `bytes_from` are a line each: one function of both would take a closure at each
+// call, and a `requires` that it can be called.
 pub(crate) fn numbers_from(words: &[u64], at: usize) -> [u32; 1024] {
     std::array::from_fn(|i| number_at(words, at.wrapping_add(i)))
 }

@@ -84,10 +84,10 @@ const RUN: usize = 65536;
 fn depth_at(words: &[u64], i: usize) -> usize
     ensures { result ≤ 65536 }
 {
-    word_at(words, i).min(RUN as u64) as usize
+    answer_list::length_within(words, i, RUN)
 }
 
-// The first n words of a run that goes round the k words from word `at` on.
+// The first n words of a run that goes round the k words from word `at` on. An array, for there is no heap; the caller cuts it.
 fn run_from(words: &[u64], at: usize, k: usize, n: usize) -> [u32; RUN]
     requires { n ≤ 65536 }
 {

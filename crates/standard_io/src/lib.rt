@@ -8,7 +8,7 @@ mod writing;
 pub use reading::read_words;
 pub use writing::write_front;
 
-// The bytes of a block.
+// The bytes of a block. region_run does not read or write, and has its own for the text.
 pub const BLOCK: usize = 65536;
 
 // The words of a block.

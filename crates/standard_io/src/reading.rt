@@ -93,10 +93,8 @@ fn words_of(bytes: &[u8; BLOCK], n: usize, words: &mut [u32; WORDS]) -> usize
     ensures words_after { words.new ≡ each (read_word bytes.now (n / 4)) words.old }
 {
     let count = n / 4;
-    // By index: the clause `words_after` is one rule for all words of the block, those behind `count` too. A loop over the
-    // words in front would have to be joined to the rest by a proof, and read the bytes by index all the same.
-    for i in 0..count {
-        words[i] = word_at(bytes, 4 * i);
+    for (i, w) in words[..count].iter_mut().enumerate() {
+        *w = word_at(bytes, 4 * i);
     }
     count
 }

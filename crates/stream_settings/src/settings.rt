@@ -19,7 +19,7 @@ impl StreamSettings {
 
     pub const DEFAULT_MAX_FILTER_SIZE: u32 = 50;
 
-    pub const DEFAULT_CONTIG_LEN: u32 = 1_073_741_823;
+    pub const DEFAULT_CONTIG_LEN: u32 = genome::MAX_POSITION;
 
     pub const SIGMA: f64 = 17.0;
 

@@ -1,6 +1,6 @@
--- `read_words`: from word i on the slice is as it was.
+-- `read_words`: from word w-index on the words are as they were.
 use Rattle.std.proofs.Common.{◌≡◌, length, drop}
 use Rattle.answer_list.proofs.read.read_words.Given as goal
 
-abbrev pub invariant-loop-i : goal.invariant-loop-i
-invariant-loop-i g l = (length l.words ≡ length l.initial.words) × (drop l.i l.words ≡ drop l.i l.initial.words)
+abbrev pub invariant-loop-w : goal.invariant-loop-w
+invariant-loop-w g l = (length l.w-items ≡ length l.initial.w-items) × (drop l.w-index l.w-items ≡ drop l.w-index l.initial.w-items)

@@ -1,17 +1,10 @@
 -- `fill_contribution_table` meets its contract: the cells before j are filled.
-use Rattle.std.proofs.Common.{◌≡◌, ℕ, suc, zero, ◌<◌, ◌++◌, List, [], ◌∷◌, length, take, drop, ap, sym, refl, ◌∙◌, subst, arith, le-ltb, lt-ltb}
+use Rattle.std.proofs.Common.{◌≡◌, ℕ, ◌<◌, length, sym, ◌∙◌, subst, arith, le-ltb, lt-ltb}
 use Rattle.std.proofs.lemmas.List.{length-take-le}
-use lib.Ieee.{Float, nan}
+use lib.Ieee.{nan}
 use Rattle.contribution_table.specs.Table.{filled, ploidy_of, table_length, tabled}
-use Rattle.lists.specs.Each.{up_to, up_to_put, up_to-rest, up_to_zero}
+use Rattle.lists.specs.Each.{up_to_front, up_to_put, up_to-rest, up_to_zero}
 use Rattle.contribution_table.proofs.fill.fill_contribution_table.Goals as goal
-
--- what is written over the front of a list, with what is behind it
-up_to_front : (f : ℕ → Float → Float) (n : ℕ) (l : List Float) → (up_to f n (take n l) ++ drop n l) ≡ up_to f n l
-unfolding up_to
-up_to_front f zero l = refl
-up_to_front f (suc n) [] = refl
-up_to_front f (suc n) (x ∷ l) = ap (λ (t : List Float). f 0 x ∷ t) (up_to_front (λ k. f (suc k)) n l)
 
 pub returns-then-table-n : goal.returns-then-table-n
 unfolding filled

@@ -1,20 +1,26 @@
 -- `words_of` meets its contract: the words before i are read.
-use Rattle.std.proofs.Common.{◌≡◌, ◌/◌, ◌<◌, ◌∙◌, refl, sym, arith, length-set, le-ltb, lt-ltb}
-use Rattle.lists.specs.Each.{up_to_put, up_to-rest, up_to_zero}
+use Rattle.std.proofs.Common.{◌≡◌, ◌/◌, ◌<◌, ◌∙◌, sym, arith, le-ltb, lt-ltb}
+use Rattle.std.proofs.lemmas.List.{length-take-le}
+use Rattle.lists.specs.Each.{up_to_front, up_to_put, up_to-rest, up_to_zero}
 use Rattle.standard_io.specs.Words.{read_word}
 use Rattle.standard_io.proofs.reading.words_of.Goals as goal
 
 pub loop-i-init : goal.loop-i-init
-loop-i-init c = (refl, sym (up_to_zero _ _))
+loop-i-init c = sym (up_to_zero _ _)
 
 pub loop-i-preserved : goal.loop-i-preserved
 loop-i-preserved c =
     let a = c.args in
-    let below : c.loop-i.i < a.n / 4 = omega arith in
-    (simp length-set c.loop-i.invariant.0, up_to_put (read_word a.bytes.now (a.n / 4)) c.loop-i.i _ _ 0 _ c.loop-i.invariant.1 (omega (arith, c.requires)) (simp (lt-ltb _ _ below) c.word_at.ensures))
+    let wide = length-take-le (a.n / 4) a.words.now (omega (arith, c.requires)) in
+    let below : c.loop-i.i < a.n / 4 = omega (arith, wide, c.loop-i-test.true) in
+    up_to_put (read_word a.bytes.now (a.n / 4)) c.loop-i.i _ _ 0 _ c.loop-i.invariant c.loop-i-test.true (simp (lt-ltb _ _ below) c.word_at.ensures)
 
 pub returns-clause-words_after : goal.returns-clause-words_after
 returns-clause-words_after c =
     let a = c.args in
-    let done : c.loop-i.i ≡ a.n / 4 = omega arith in
-    c.loop-i.invariant.1 ∙ up_to-rest (read_word a.bytes.now (a.n / 4)) _ a.words.now (λ k x h. simp (le-ltb k (a.n / 4) (omega (arith, done))))
+    let n = a.n / 4 in
+    let rule = read_word a.bytes.now n in
+    let wide = length-take-le n a.words.now (omega (arith, c.requires)) in
+    let done : c.loop-i.i ≡ n = omega (arith, wide) in
+    rw (c.loop-i.invariant, done) (up_to_front rule n a.words.now)
+    ∙ up_to-rest rule n a.words.now (λ k x h. simp (le-ltb k n (omega (arith, h))))
