@@ -64,8 +64,8 @@ pub fn is_in_range(pos: GenomePosition, params: HaplotypeCallerActivityScoringPa
     params.in_range() & (1..=genome::MAX_POSITION).contains(&pos.0)
 }
 
-// Whether every word is an observation: document 01's refusal 3. A fold, which takes no branch for a word: by `all`, and
-// has_clips by `any`, a score of 1,000 quiet words took 1.25 times as long.
+// Whether every word is an observation: document 01's refusal 3. A fold, which takes no branch for a word: by `all` it is
+// slower (docs/SPEED.md, 'Forms that are slower').
 pub fn are_observations(pile: &[u32]) -> bool
     ensures { result ≡ all_observations pile.now }
 {

@@ -94,8 +94,7 @@ fn clip(w: Walk, end: usize, qualities: &[u8]) -> Walk
 }
 
 // How many of the qualities are strictly above 28 and not missing. The definition count_high is this fold, and with_base
-// its turn. A loop: by `filter` and `count`, which prove, a clip of 150 qualities took 3.4 times as long, and one of 10,000 took
-// 6.2 times (part/speed.sh against the build with the loop).
+// its turn. A loop: by `filter` and `count`, which prove, it is slower (docs/SPEED.md, 'Forms that are slower').
 fn count_high(qualities: &[u8]) -> u64
     ensures { result ≡ count_high qualities.now }
 {

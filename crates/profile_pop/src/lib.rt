@@ -199,7 +199,7 @@ fn region_size(states: &[f64], threshold: f64, least: usize, most: usize) -> usi
 
 // The size of an active region that reached max: from index max - 1 down to min - 1, the smallest minimum, the higher index on ties, which
 // stays inside; max where there is none. The best so far is a size, 0 for none as the definition has it, and no f64::MAX as in the Rust. No
-// Option: with it rough cells took 1.65 times as long: the bar of pops, the build before, is missed.
+// Option: with it the search is slower (docs/SPEED.md, 'Forms that are slower').
 fn find_best_cut_site(states: &[f64], least: usize, most: usize) -> usize
     requires { (1 ≤ least) × (most ≤ length states.now) }
     ensures { result ≡ or_most most (best_cut_site states.now least most) }
