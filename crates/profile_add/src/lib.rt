@@ -131,9 +131,9 @@ fn lowest_of(p: BandPassActivityProfile, s: ActivityProfileState) -> u64
 
 // ---- what its cells receive
 
-// Each cell of the window receives its sum, from the kernel's front on: by one addition in the first `held` cells; from there on the sum
-// becomes the next new cell, whatever it held. Two loops, so that neither tests at each cell whether it is held. No zip with the kernel: a
-// proof knows nothing of what a zip over `iter_mut` writes.
+// Each cell of the window receives its sum, from the kernel's front on: by one addition in the first `held` cells; from there on
+// the sum becomes the next new cell, whatever it held. Two loops, so that neither tests at each cell whether it is held. No zip
+// with the kernel: a proof knows nothing of what a zip over `iter_mut` writes.
 fn spread(window: &mut [f64], kernel: &[f64], s: ActivityProfileState, m: u64, held: usize)
     requires { length window.old ≤ length kernel.now }
     ensures { window.new ≡ each (receiving kernel.now s m held) window.old }
