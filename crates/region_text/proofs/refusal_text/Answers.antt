@@ -7,8 +7,12 @@ use Rattle.region_text.proofs.refusal_text.Goals as goal
 pub returns : goal.returns
 unfolding refusal_text
 returns c =
-    let w2 = simp (c.from.ensures, c.number.ensures) at c.number-first.ensures in
-    let all = both _ _ _ _ _ _ _ _ _ _ (both _ _ _ _ _ _ _ _ _ _ c.number-last.ensures w2) c.refused.ensures in
+    let w2 = simp (c.from.ensures, c.number-2.ensures) at c.number-3.ensures.1 in
+    let all = both _ _ _ _ _ _ _ _ _ _ (both _ _ _ _ _ _ _ _ _ _ c.number.ensures.1 w2) c.refused.ensures.1 in
     let text = c.args.text.now in
     let long : length text ≡ 105 = search rules in
-    record { text_after = all.text ∙ ap (refusal_onto _ _) (nothing_after text 105 (omega arith)); text_unchanged = all.front; upper_bound = omega (arith, all.low) }
+    record {
+      text_after = all.text ∙ ap (refusal_onto _ _) (nothing_after text 105 (omega arith));
+      text_unchanged = all.front;
+      upper_bound = omega (arith, all.low);
+    }

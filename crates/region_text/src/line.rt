@@ -1,0 +1,11 @@
+// The type of a line that is being written. Its methods are in lib.rt, and not beside it: their clauses name `Wrote`, a
+// definition over this type, and a file of a type with a ghost field may import none.
+ghost use Rattle.std.specs.Prelude.{◌≤◌, length};
+
+// A line in a lent buffer, written from the buffer's end to its front: its bytes stand from `at` on.
+#[derive(Drop)]
+pub(crate) struct Line<'a> {
+    pub(crate) text: &'a mut [u8],
+    pub(crate) at: usize,
+    ghost in_text: { at ≤ length text.now },
+}
