@@ -6,7 +6,7 @@ use mathlib.Core.Logic.{◌⊎◌, inl, inr}
 use mathlib.Core.List.{List, [], ◌∷◌, ◌++◌}
 use Prim.Native.Nat.{ℕ, zero, suc, ◌+◌, ◌-◌, ◌/◌, ◌%◌, ◌^◌, ◌≤◌, ◌<◌}
 use native.Mathlib.Omega.{arith}
-use borrow.Author.Tests.{ltb-true, ltb-false}
+use borrow.Author.Tests.{ltb-true}
 use lib.Dec.{ltb}
 use lib.ListN.{length, get_or, take, drop, replicate, length-append, length-replicate}
 use lib.Seq.{take_at, take-append-add, drop_at, drop-append-add, drop-drop, get_or_at, get_or-drop}
@@ -14,7 +14,7 @@ use Rattle.activity_profile.specs.declared.ActivityProfileRegion.{ActivityProfil
 use Rattle.region_text.specs.Text.{blank, line_feed, digit, digits_onto, decimal, flag}
 use Rattle.region_text.proofs.Decimal.{read, decimal-read}
 use Rattle.region_sheet.specs.Row.{right_aligned, position_columns, flag_columns, column_onto, row_text, region_row, Fits}
-use Rattle.region_sheet.proofs.Columns.{ten_less, flag_column}
+use Rattle.region_sheet.proofs.Columns.{decimal_few, flag_column}
 
 -- ---- what a reader finds in a row
 
@@ -49,25 +49,12 @@ AllPlain (b ∷ bs) = Plain b × AllPlain bs
 
 -- ---- a number's columns
 
-digits_few : (k j n : ℕ) (t : List ℕ) → 1 ≤ j → n < 10 ^ j → length (digits_onto k n t) ≤ j + length t
-unfolding digits_onto
-digits_few zero j n t l h = omega arith
-digits_few (suc k) j n t l h = go (ltb n 10) refl (λ i. digits_few k i (n / 10) (digit (n % 10) ∷ t))
-  where
-    go : (b : Bool) → ltb n 10 ≡ b → ((i : ℕ) → 1 ≤ i → n / 10 < 10 ^ i → length (digits_onto k (n / 10) (digit (n % 10) ∷ t)) ≤ i + suc (length t))
-        → length (cond b (digit n ∷ t) (digits_onto k (n / 10) (digit (n % 10) ∷ t))) ≤ j + length t
-    go true e f = omega (arith, l)
-    go false e f =
-        let fewer = ten_less j n (ltb-false n 10 e) h in
-        omega (arith, f (j - 1) (omega (arith, fewer.0)) fewer.1, fewer.0)
-
 -- ten columns hold every 32-bit number
 column_length : (n : ℕ) → n < 2 ^ 32 → length (right_aligned position_columns n) ≡ position_columns
-unfolding decimal
 column_length n h =
     let digits = decimal n [] in
-    let few : length digits ≤ position_columns + 0 = digits_few 20 position_columns n [] (omega arith) (omega (arith, h)) in
-    length-append (replicate (position_columns - length digits) blank) digits ∙ omega (arith, length-replicate (position_columns - length digits) blank, few)
+    length-append (replicate (position_columns - length digits) blank) digits
+    ∙ omega (arith, length-replicate (position_columns - length digits) blank, decimal_few n h)
 
 -- blanks in front read as nothing
 blanks_read : (j : ℕ) (t : List ℕ) → fold read 0 (replicate j blank ++ t) ≡ fold read 0 t

@@ -7,6 +7,8 @@ ghost use Rattle.region_text.specs.Text.{blank};
 ghost use Rattle.region_sheet.specs.Row.{row_text, right_aligned, position_columns};
 ghost use Rattle.region_sheet.specs.Pages.{rows_after};
 
+use region_text::DIGITS;
+
 // The bytes of a row: 45 characters and a line feed.
 pub const ROW: usize = 46;
 
@@ -50,23 +52,18 @@ pub fn row_text(
     row
 }
 
-// Writes n right-aligned into the ten columns from `from` on, the last digit first. All up to their end is blank before.
-// Not by region_text's digits: those ask for room of 20 in front of their end, and the first column ends at 10. By index:
-// tried by `iter_mut().rev()`, where the loop's invariant has the iterator alone, and not the row.
+// Writes n right-aligned into the ten columns from `from` on. All up to their end is blank before.
 fn column(row: &mut [u8; ROW], from: usize, n: u32)
     requires position_columns_bound { from + position_columns ≤ 46 }
     requires row_value { take (from + position_columns) row.old ≡ replicate (from + position_columns) blank }
     ensures { row.new
         ≡ replicate from blank ++ (right_aligned position_columns n ++ drop (from + position_columns) row.old) }
 {
-    let mut rest = n;
-    for k in 0..COLUMNS {
-        row[from + COLUMNS - 1 - k] = b'0' + (rest % 10) as u8;
-        rest /= 10;
-        if rest == 0 {
-            return;
-        }
-    }
+    let mut digits = [0u8; DIGITS];
+    let first = region_text::decimal_text(u64::from(n), &mut digits);
+    let digits = &digits[first..];
+    let end = from + COLUMNS;
+    row[end - digits.len()..end].copy_from_slice(digits);
 }
 
 // How many rows stand on a page after one more: none where that was its last, and a form feed stands behind it.

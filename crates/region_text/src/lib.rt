@@ -5,7 +5,7 @@
 // stand in the lent buffer.
 #![tactic(auto)]
 
-ghost use Rattle.std.specs.Prelude.{◌≡◌, ◌+◌, ◌≤◌, length, drop, take};
+ghost use Rattle.std.specs.Prelude.{◌≡◌, ◌+◌, ◌≤◌, [], length, drop, take};
 ghost use Rattle.genome.specs.Refusals.{number_of};
 ghost use Rattle.region_text.specs.Text.{decimal, number_onto, line_text, refusal_text, refused_word};
 ghost use Rattle.region_text.specs.Writing.{Wrote, byte_onto};
@@ -20,7 +20,7 @@ use line::Line;
 pub const TEXT: usize = 105;
 
 // The most digits of a 64-bit number.
-const DIGITS: usize = 20;
+pub const DIGITS: usize = 20;
 
 const BLANK: u8 = b' ';
 
@@ -54,6 +54,17 @@ pub fn refusal_text(why: Refusal, index: u64, text: &mut [u8; TEXT]) -> usize
     line.at
 }
 
+// A number in decimal: the buffer's bytes from the answer on. Those before it keep theirs.
+pub fn decimal_text(n: u64, text: &mut [u8; DIGITS]) -> usize
+    ensures text_after { drop result text.new ≡ decimal n [] }
+    ensures text_unchanged { take result text.new ≡ take result text.old }
+    ensures upper_bound { result ≤ 20 }
+{
+    let mut line = Line { text, at: DIGITS };
+    line.digits(n);
+    line.at
+}
+
 impl<'a> Line<'a> {
     // `refused` and a blank, before the line.
     fn refused(&mut self)
@@ -74,8 +85,7 @@ impl<'a> Line<'a> {
         self.digits(n);
     }
 
-    // The digits of n, before the line. region_sheet writes digits of its own: these ask for room of 20 before the line, and a
-    // public function may ask nothing.
+    // The digits of n, before the line.
     fn digits(&mut self, n: u64)
         requires { 20 ≤ self.old.at }
         ensures { Wrote 20 (decimal n) self.old self.new }

@@ -2,7 +2,7 @@
 // definition over this type, and a file of a type with a ghost field may import none.
 ghost use Rattle.std.specs.Prelude.{◌≤◌, length};
 
-// A line in a lent buffer, written from the buffer's end to its front: its bytes stand from `at` on.
+// A line, or the end of one, in a lent buffer: it is written from the buffer's end to its front, and stands from `at` on.
 #[derive(Drop)]
 pub(crate) struct Line<'a> {
     pub(crate) text: &'a mut [u8],
