@@ -1,13 +1,17 @@
 -- Four cells at a time: four turns of the walk for the peak, and four cells that are on one side. Assumes nothing.
-use mathlib.Core.Path.{◌≡◌, ◌∙◌, refl}
+use mathlib.Core.Path.{◌≡◌, ◌∙◌, ap, refl, subst}
 use mathlib.Core.Bool.{Bool, false, true, ◌||◌, cond, not}
-use mathlib.Core.List.{List, [], ◌∷◌}
+use mathlib.Core.List.{List, [], ◌∷◌, ◌++◌}
 use Rattle.std.specs.List.{prefix_len}
-use Prim.Native.Nat.{ℕ, suc, ◌+◌, ◌≤◌}
+use Rattle.std.specs.declared.slice.ChunksExact.{ChunksExact}
+use Rattle.std.specs.Slice.Iter.{chunks_exact_rest, chunks_exact_size, chunks_exact_steps}
+use Rattle.std.proofs.lemmas.Iterator.{YieldsList}
+use Rattle.std.proofs.lemmas.Iterator.Splits.{YieldsList-from_shown_while}
+use Prim.Native.Nat.{ℕ, suc, ◌+◌, ◌*◌, ◌≤◌, ◌<◌}
 use native.Mathlib.Omega.{arith}
 use lib.ListN.{length, get_or, drop}
 use lib.Ieee.{Float}
-use Rattle.lists.specs.Loops.{along, first_at, first_at-turn}
+use Rattle.lists.specs.Loops.{along, first_at}
 use Rattle.lists.specs.Tests.{or_left, or_right}
 use Rattle.activity_profile.specs.Peak.{leads}
 use Rattle.region_cells.specs.Fours.{one_of_four, above_at}
@@ -58,15 +62,61 @@ first_at-prefix p (x ∷ l) = go (p x) (first_at-prefix p l)
     go true e = refl
     go false e = omega arith
 
-module _ {A : Type 0} (p : A → Bool) (l : List A) (d : A) where
-  -- Behind four that do not pass, the first that passes is further on.
-  pub first_at-four : (i : ℕ) → i + 4 ≤ length l → one_of_four (λ k. p (get_or l k d)) i ≡ false → (i + 4) + first_at p (drop (i + 4) l) ≡ i + first_at p (drop i l)
-  first_at-four i h e =
-      let n = none (p (get_or l i d)) (p (get_or l (i + 1) d)) (p (get_or l (i + 2) d)) (p (get_or l (i + 3) d)) e in
-      turn (i + 3) (i + 4) (omega arith) (omega arith) n.3
-      ∙ turn (i + 2) (i + 3) (omega arith) (omega arith) n.2
-      ∙ turn (i + 1) (i + 2) (omega arith) (omega arith) n.1
-      ∙ turn i (i + 1) (omega arith) (omega arith) n.0
+-- the fours of a list, from its front; what is left is no four
+abbrev pub whole_fours : {A : Type 0} → List A → List (List A)
+whole_fours [] = []
+whole_fours (a ∷ []) = []
+whole_fours (a ∷ b ∷ []) = []
+whole_fours (a ∷ b ∷ c ∷ []) = []
+whole_fours (a ∷ b ∷ c ∷ d ∷ l) = (a ∷ b ∷ c ∷ d ∷ []) ∷ whole_fours l
+
+module _ {A : Type 0} where
+  no_four : (l : List A) → length l < 4 → length (whole_fours l) ≡ 0
+  no_four [] h = refl
+  no_four (a ∷ []) h = refl
+  no_four (a ∷ b ∷ []) h = refl
+  no_four (a ∷ b ∷ c ∷ []) h = refl
+  no_four (a ∷ b ∷ c ∷ d ∷ l) h = absurd (omega (arith, h))
+
+  four_more : (four l : List A) → length four ≡ 4 → whole_fours (four ++ l) ≡ four ∷ whole_fours l
+  four_more [] l h = absurd (omega (arith, h))
+  four_more (a ∷ []) l h = absurd (omega (arith, h))
+  four_more (a ∷ b ∷ []) l h = absurd (omega (arith, h))
+  four_more (a ∷ b ∷ c ∷ []) l h = absurd (omega (arith, h))
+  four_more (a ∷ b ∷ c ∷ d ∷ []) l h = refl
+  four_more (a ∷ b ∷ c ∷ d ∷ x ∷ k) l h = absurd (omega (arith, h))
+
+  -- They are what `chunks_exact(4)` yields.
+  pub yields_fours : (s : ChunksExact A) (l : List A) → chunks_exact_size s ≡ 4 → chunks_exact_rest s ≡ l → YieldsList chunks_exact_steps (λ x. x.now) s (whole_fours l)
+  yields_fours s l h e =
+      subst (λ k. YieldsList chunks_exact_steps (λ x. x.now) s (whole_fours k)) e
+      (YieldsList-from_shown_while chunks_exact_steps (λ x. x.now) (λ t. whole_fours (chunks_exact_rest t)) (λ t. chunks_exact_size t ≡ 4)
+      (λ t u f n. no_four (chunks_exact_rest t) (rw (← f) n.1.0))
+      (λ t x u f n. (n.0 ∙ f, ap whole_fours n.1.0 ∙ four_more x.now (chunks_exact_rest u) (n.1.1 ∙ f)))
+      s h)
+
+-- Behind the fours in which none passes, the first that passes is further on.
+module _ {A : Type 0} (p : A → Bool) (e : A) where
+  abbrev pub none_passes : List A → Bool
+  none_passes four = not (one_of_four (λ k. p (get_or four k e)) 0)
+
+  abbrev Behind : ℕ → List A → Type 0
+  Behind n l = (4 * n ≤ length l) × (4 * n + first_at p (drop (4 * n) l) ≡ first_at p l)
+
+  pub behind_fours : (l : List A) → Behind (prefix_len none_passes (whole_fours l)) l
+  unfolding first_at
+  behind_fours [] = (omega arith, omega arith)
+  behind_fours (a ∷ []) = (omega arith, omega arith)
+  behind_fours (a ∷ b ∷ []) = (omega arith, omega arith)
+  behind_fours (a ∷ b ∷ c ∷ []) = (omega arith, omega arith)
+  behind_fours (a ∷ b ∷ c ∷ d ∷ l) = go (((p a || p b) || p c) || p d) refl (behind_fours l)
     where
-      turn : (k n : ℕ) → n ≡ k + 1 → n ≤ length l → p (get_or l k d) ≡ false → n + first_at p (drop n l) ≡ k + first_at p (drop k l)
-      turn k n q w f = rw q (first_at-turn p l k d (omega arith) f)
+      m : ℕ
+      m = prefix_len none_passes (whole_fours l)
+
+      go : (t : Bool) → (((p a || p b) || p c) || p d) ≡ t → Behind m l → Behind (cond (not t) (1 + m) 0) (a ∷ b ∷ c ∷ d ∷ l)
+      go true f h = (omega arith, omega arith)
+      go false f h =
+          let n = none (p a) (p b) (p c) (p d) f in
+          let more : 4 * (1 + m) ≡ suc (suc (suc (suc (4 * m)))) = omega arith in
+          (omega (arith, h.0), rw (more, n.0, n.1, n.2, n.3) (omega (arith, h.1)))

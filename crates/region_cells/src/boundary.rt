@@ -20,32 +20,27 @@ impl Side {
         (x > self.threshold) != self.active
     }
 
-    // Whether one of the four cells from i on is on the other side. All four are compared, and one test tells.
-    fn leaves_in_four(self, cells: &[f64], i: usize) -> bool
-        requires { i + 4 ≤ length cells.now }
-        ensures { result ≡ one_of_four (other_at self.threshold self.active cells.now) i }
+    // Whether one of four cells is on the other side. All four are compared, and one test tells.
+    fn leaves_in_four(self, four: &[f64]) -> bool
+        requires { length four.now ≡ 4 }
+        ensures { result ≡ one_of_four (other_at self.threshold self.active four.now) 0 }
     {
-        self.is_other(cells[i])
-            | self.is_other(cells[i + 1])
-            | self.is_other(cells[i + 2])
-            | self.is_other(cells[i + 3])
+        self.is_other(four[0])
+            | self.is_other(four[1])
+            | self.is_other(four[2])
+            | self.is_other(four[3])
     }
 
-    // How many cells are on this side, four at a time: none of them is the first on the other. By index: `chunks_exact(4)`,
-    // `take_while` and `count` were tried, and the proof of the clause did not close: that the test fails for each four that is
-    // counted, by its place in the cells, was not found.
+    // How many cells are on this side, four at a time: none of them is the first on the other.
     fn fours(self, cells: &[f64]) -> usize
         ensures { (result ≤ length cells.now)
             × (result + first_at (other_side self.threshold self.active) (drop result cells.now)
             ≡ first_at (other_side self.threshold self.active) cells.now) }
     {
-        let n = cells.len() / 4;
-        for k in 0..n {
-            if self.leaves_in_four(cells, 4 * k) {
-                return 4 * k;
-            }
-        }
-        4 * n
+        4 * cells
+            .chunks_exact(4)
+            .take_while(|four| !self.leaves_in_four(four))
+            .count()
     }
 
     // How many cells are on this side before the first on the other.
