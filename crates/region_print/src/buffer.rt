@@ -1,8 +1,10 @@
 // Text behind the text in a buffer. Each function answers how many bytes are in use then; where there is no room for the
 // most that a call adds, it writes nothing.
 //
-// The buffer and its bytes in use are two arguments: a run keeps the count in its state and is lent the buffer anew at each
-// call, so that a type of both would be made and taken apart at every one; and any count is answered, past the end too.
+// The form, the buffer and its bytes in use are three arguments: a run keeps form and count in its state and is lent the
+// buffer anew at each call, so that a type of them would be made and taken apart at every one; and any count is answered,
+// past the end too. Why and index are two, here and in region_text, and no StreamRefusal: that stands in region_program,
+// which both crates do without, and the definitions stop_text and refusal_text are of two numbers.
 ghost use Rattle.std.specs.Prelude.{◌≡◌, ◌+◌, ◌≤◌, ◌<◌, leb, length};
 ghost use Rattle.genome.specs.Refusals.{number_of};
 ghost use Rattle.region_text.specs.Text.{line_text, refusal_text};

@@ -37,7 +37,8 @@ fn run_calls(words: &[u64], p: BandPassActivityProfile, kernel: &[f64], cells: &
 }
 
 // With one call compared: 0 and a state, with the refusal's number or 0; or 1 and the sizes of a pop, with its answer; then
-// region start, last input, count and cells[n]. And the record that the call hands back.
+// region start, last input, count and cells[n]. And the record that the call hands back. The kind stays a number: it is read
+// here alone, each but 0 is a pop, and an enum with its conversion would be this test again.
 fn with_call<'a>(
     c: Compared<'a>,
     p: BandPassActivityProfile,

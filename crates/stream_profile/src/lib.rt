@@ -48,7 +48,8 @@ pub fn make_profile(
     Ok(p)
 }
 
-// Scores a pile and adds its locus. A refusal leaves the cells as they were.
+// Scores a pile and adds its locus. A refusal leaves the cells as they were. Words, kernel and cells are slices, and no
+// StreamMemory: score_added and score_cells are of lists of any length, and of pile and kernel the part in use is lent.
 #[tactic(auto, unfolding(region_program::specs::Program::score_added, region_program::specs::Program::score_cells))]
 pub fn add_pile(
     p: BandPassActivityProfile,
