@@ -1,7 +1,8 @@
 // The band-pass activity profile: its record, what its calls answer, their definitions and the laws over them (the
 // Rust's activity_profile.rs).
 //
-// The record goes in by value and comes back; the activity at each locus stands in cells that the caller lends.
+// The record goes in by value and comes back; the activity at each locus stands in cells that the caller lends, as C does, for
+// there is no heap; `count` says how many of them hold a locus.
 #![tactic(auto)]
 
 use genome::{GenomePosition, Refusal};

@@ -29,7 +29,8 @@ pub fn hq_soft_clip_running_mean_rcm_path(
 }
 
 // Whether any observation is alternate and next to a soft clip, skipped or not. Few piles have one, and only those need a mean.
-// A fold, which takes no branch for a word: by `any` it is slower (docs/SPEED.md, 'Forms that are slower').
+// A fold, which takes no branch for a word: by `any`, and are_observations by `all`, a score is slower (docs/SPEED.md, 'Forms
+// that are slower').
 fn has_clips(pile: &[u32]) -> bool
     ensures { result ≡ fold or_next_to_clip false pile.now }
 {

@@ -1,4 +1,5 @@
-// The score of a pile.
+// The score of a pile. Contig and position are arguments, as the public functions take them (docs/ARCHITECTURE.md names
+// those), and fields of the state that they make.
 ghost use Rattle.std.specs.Prelude.{◌≡◌, ◌+◌, ◌<◌, ◌≤◌, true, length};
 ghost use Rattle.genome.specs.Refusals.{outcome_of};
 ghost use Rattle.activity_scoring.specs.Score.{in_range, all_observations, evidence_of, score_of};
@@ -64,8 +65,8 @@ pub fn is_in_range(pos: GenomePosition, params: HaplotypeCallerActivityScoringPa
     params.in_range() & (1..=genome::MAX_POSITION).contains(&pos.0)
 }
 
-// Whether every word is an observation: document 01's refusal 3. A fold, which takes no branch for a word: by `all` it is
-// slower (docs/SPEED.md, 'Forms that are slower').
+// Whether every word is an observation: document 01's refusal 3. A fold, which takes no branch for a word: by `all`, and
+// has_clips by `any`, a score is slower (docs/SPEED.md, 'Forms that are slower').
 pub fn are_observations(pile: &[u32]) -> bool
     ensures { result ≡ all_observations pile.now }
 {

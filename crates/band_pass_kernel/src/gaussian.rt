@@ -1,4 +1,5 @@
-// The normal density, the normalised kernel, and the width at which its entries become too small to keep.
+// The normal density, the normalised kernel, and the width at which its entries become too small to keep. Filter size and
+// sigma are two arguments, here and in resolve.rt: kernels of two sizes are made, of which the settings hold one.
 ghost use Rattle.std.specs.Prelude.{◌≡◌, ◌-◌, ◌/◌, ◌≤◌, length, reverse};
 ghost use Rattle.std.specs.List.{prefix_len};
 ghost use Rattle.std.specs.Float.Ieee.{le};

@@ -20,7 +20,7 @@ pub const ROWS: usize = 510;
 
 // The sums of four genotypes over some words, and how many of the words were not skipped. Public, since the definitions speak of
 // it. Four fields and no array: the definitions name each sum, where an array would be a list that is read at a place, with a default.
-#[derive(Clone, Copy)]
+#[derive(Clone, Copy, Default)]
 pub struct Sums {
     pub count: u64,
     pub a: f64,

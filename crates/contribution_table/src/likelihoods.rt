@@ -41,8 +41,7 @@ fn is_for(table: &[f64], genotypes: usize, params: HaplotypeCallerActivityScorin
     if table.len() != table_length(p) {
         return false;
     }
-    // `as`: by f64::from the answer did not close
-    let ploidy = numbers::same_positive(table[0], p.0 as f64);
+    let ploidy = numbers::same_positive(table[0], f64::from(p.0));
     let multiplier = numbers::same_positive(table[1], params.active_region_alt_multiplier);
     let entries = (genotypes <= row) & (params.ref_model_deletion_qual < MISSING_QUALITY);
     entries & (ploidy & multiplier)

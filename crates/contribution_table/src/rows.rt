@@ -47,7 +47,7 @@ impl<'a> Rows<'a> {
         ensures gl_after { gl.new
             ≡ tabulate (sum_at self.now.entries.now self.now.params pile.now) (length gl.old) }
     {
-        let mut sums = no_sums();
+        let mut sums = Sums::default();
         for (i, x) in gl.iter_mut().enumerate() {
             sums = self.sums_at(sums, pile, i);
             *x = sum_in(sums, i % 4);
@@ -74,7 +74,7 @@ impl<'a> Rows<'a> {
         requires { i + 4 ≤ self.now.row }
         ensures { result ≡ sums_from self.now.entries.now self.now.params pile.now i }
     {
-        let mut sums = no_sums();
+        let mut sums = Sums::default();
         for w in pile {
             sums = self.with_word(sums, *w, i);
         }
@@ -103,20 +103,8 @@ impl<'a> Rows<'a> {
     }
 }
 
-// The sums before the first word: the definition no_sums.
-fn no_sums() -> Sums
-    ensures { result ≡ no_sums }
-{
-    Sums {
-        count: 0,
-        a: 0.0,
-        b: 0.0,
-        c: 0.0,
-        d: 0.0,
-    }
-}
-
-// The place of genotype i in the row of an observation.
+// The place of genotype i in the row of an observation. Quality and alternate are arguments, as genotype_contribution, which
+// fills the rows, takes them: the quality is the one that counts, and not the observation's own.
 fn place_of(qual: u8, is_alt: bool, row: usize, i: usize) -> usize
     requires { (qual < missing_quality) × (row ≤ 256) × (i + 4 ≤ row) }
     ensures { (result ≡ (qual * 2 + cond is_alt 1 0) * row + i) × (result + 4 ≤ 510 * row) }
@@ -129,10 +117,7 @@ fn row_of(qual: u8, is_alt: bool) -> usize
     requires { qual < missing_quality }
     ensures { (result ≡ qual * 2 + cond is_alt 1 0) × (result < 510) }
 {
-    if is_alt {
-        return usize::from(qual) * 2 + 1;
-    }
-    usize::from(qual) * 2
+    usize::from(qual) * 2 + usize::from(is_alt)
 }
 
 // The sum at a place in the four.

@@ -41,6 +41,7 @@ fn shift(from: f64) -> Shifted
 }
 
 // "a = 1/1260 − v/1680, b = 1/360 − v × a, d = 1/12 − v × b"
+#[tactic(auto, unfolding(crate::specs::LnGamma::correction))]
 fn correction_at(v: f64) -> f64
     ensures { result ≡ correction v }
 {
@@ -50,6 +51,7 @@ fn correction_at(v: f64) -> f64
 }
 
 // "((((x − 0.5) × ln x − x) + 0.91893853320467274178) + r × d) − c"
+#[tactic(auto, unfolding(crate::specs::LnGamma::stirling))]
 fn stirling_at(s: Shifted) -> f64
     ensures { result ≡ stirling s }
 {

@@ -28,6 +28,7 @@ pub fn ln(y: f64) -> f64
 pub const LOG10_E: f64 = 0.4342944819032518;
 
 // The logarithm to the base 10.
+#[tactic(auto, unfolding(crate::specs::Ln::log10_of))]
 pub fn log10(x: f64) -> f64
     ensures { result ≡ log10_of x }
 {
@@ -82,6 +83,7 @@ fn scale_up(s: Scaled) -> Scaled
 }
 
 // "z = (m − 1)/(m + 1) .. k × 0.6931471805599453 + 2 × (z × s)"
+#[tactic(auto, unfolding(crate::specs::Ln::ln_scaled))]
 fn ln_scaled(c: Scaled) -> f64
     ensures { result ≡ ln_scaled c }
 {

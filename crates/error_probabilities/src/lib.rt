@@ -15,6 +15,7 @@ use table::ERROR_PROBABILITIES;
 pub const QUALITIES: usize = 255;
 
 // The table.
+#[tactic(auto, unfolding(crate::specs::Table::patterns, crate::specs::Table::lower, crate::specs::Table::upper))]
 pub fn error_patterns() -> [u64; QUALITIES]
     ensures { result ≡ all_patterns }
 {
@@ -28,7 +29,7 @@ pub fn error_probability(patterns: &[u64; QUALITIES], qual: u8) -> f64
     ensures { result ≡ probability_in patterns.now qual }
 {
     if qual < MISSING_QUALITY {
-        return numbers::double_of(patterns[qual as usize]);
+        return numbers::double_of(patterns[usize::from(qual)]);
     }
     error_probability_by_steps(qual)
 }

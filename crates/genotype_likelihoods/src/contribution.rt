@@ -1,6 +1,6 @@
 // What one observation contributes to one genotype: a function of its quality, whether it is alternate, the genotype and the ploidy alone.
 ghost use Rattle.std.specs.Prelude.{◌≡◌};
-ghost use Rattle.genotype_likelihoods.specs.Contribution.{error_prob, qual_to_prob_log10, qual_to_error_prob_log10_third};
+ghost use Rattle.genotype_likelihoods.specs.Contribution.{qual_to_prob_log10, qual_to_error_prob_log10_third};
 ghost use Rattle.genotype_likelihoods.specs.Contribution.{log10_whole, contribution_of};
 
 use genome::Ploidy;
@@ -27,21 +27,12 @@ pub fn genotype_contribution(qual: u8, is_alt: bool, genotype: usize, ploidy: Pl
     log10_sums::approximate_log10_sum_log10_pair(r, a)
 }
 
-// The probability that a base of this quality is wrong. It stays beside error_probabilities' own: the edit error_above_one
-// stands on it.
-#[tactic(auto, unfolding(crate::specs::Contribution::error_prob, error_probabilities::specs::ErrorProb::error_prob))]
-pub fn error_prob(qual: u8) -> f64
-    ensures { result ≡ error_prob qual }
-{
-    error_probabilities::error_probability_by_steps(qual)
-}
-
 // log10 of the probability that a base of this quality is right.
-#[tactic(auto, unfolding(crate::specs::Contribution::qual_to_prob_log10))]
+#[tactic(auto, unfolding(crate::specs::Contribution::qual_to_prob_log10, crate::specs::Contribution::error_prob, error_probabilities::specs::ErrorProb::error_prob))]
 fn qual_to_prob_log10(qual: u8) -> f64
     ensures { result ≡ qual_to_prob_log10 qual }
 {
-    elementary::log10(1.0 - error_prob(qual))
+    elementary::log10(1.0 - error_probabilities::error_probability_by_steps(qual))
 }
 
 // log10 of the probability that it is one certain wrong base, of three.

@@ -7,7 +7,7 @@ mod likelihoods;
 mod observation;
 mod params;
 
-pub use contribution::{error_prob, genotype_contribution};
+pub use contribution::genotype_contribution;
 use genome::Ploidy;
 pub use likelihoods::{calc_ref_vs_any_log10_genotype_likelihoods, subtract, weight_of};
 pub use observation::{effective_qual, skip_observation};

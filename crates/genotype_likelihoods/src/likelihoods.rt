@@ -1,4 +1,5 @@
-// The likelihoods of every genotype over a whole pile.
+// The likelihoods of every genotype over a whole pile. The lent slice, the pile and the settings are arguments, as the public
+// function takes them: a struct of them would be made there and read once.
 ghost use Rattle.std.specs.Prelude.{◌≡◌, ◌<◌, ◌-◌, ◌^◌, cond, length};
 ghost use Rattle.std.specs.List.{fold};
 ghost use Rattle.lists.specs.Each.{each};

@@ -11,7 +11,8 @@ ghost use Rattle.genotype_posterior.specs.Priors.{unnormalized_by, posterior_by,
 use crate::HEADING;
 use genome::Ploidy;
 
-// What the priors are made of, beside the ploidy: the heterozygosity, and its standard deviation.
+// What the priors are made of, beside the ploidy: the heterozygosity, and its standard deviation. Private: the public functions,
+// which docs/ARCHITECTURE.md names, take the two as they are, and their callers hold them among other settings.
 #[derive(Clone, Copy)]
 struct Heterozygosity {
     snp: f64,
@@ -69,7 +70,7 @@ fn write_unnormalized(gl: &mut [f64], settings: Heterozygosity)
 }
 
 // log10 of the prior of n copies of the alternate. The ploidy is one less than a slice's length, or 8 bits wide: its callers
-// know that it is not the largest number.
+// know that it is not the largest number. A type of it and n would be made at each genotype, and taken apart in each line.
 fn log10_prior(ploidy: u64, n: u64, ref_pc: f64, snp_pc: f64) -> f64
     requires { (n ≤ ploidy) × (ploidy < 2 ^ 64 - 1) }
     ensures { result ≡ mul binary64 (ln_prior ploidy ref_pc snp_pc n) log10_e }

@@ -30,7 +30,8 @@ pub fn log10_sum_log10(values: &[f64]) -> f64
 }
 
 // The index of the largest value, the first of several; 0 where there is none: a number and no Option, as the clause `value` and the
-// Rust's have it.
+// Rust's have it. region_cells' peak_index walks alike, four cells at a time: each is the definition of its name, which
+// docs/ARCHITECTURE.md names.
 pub fn max_element_index(values: &[f64]) -> usize
     ensures value { result ≡ max_element_index values.now }
     ensures upper_bound { result ≤ length values.now - 1 }

@@ -1,4 +1,5 @@
-// The score of a set.
+// The score of a set. Contig and position are arguments, as the public functions take them (docs/ARCHITECTURE.md names
+// those), and fields of the state that they make.
 ghost use Rattle.std.specs.Prelude.{◌≡◌, ◌≤◌, length};
 ghost use Rattle.std.specs.List.{sum_by};
 ghost use Rattle.genome.specs.Refusals.{outcome_of};

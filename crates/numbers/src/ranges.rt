@@ -9,8 +9,8 @@ pub fn within_u32(low: u32, n: u32, high: u32) -> bool
     (low..=high).contains(&n)
 }
 
-// Whether x is in low to high. A NaN is in no range. Two comparisons, since what std says of `contains` on doubles goes by
-// `partial_cmp`, which the search does not bring to `within`.
+// Whether x is in low to high. A NaN is in no range. Two comparisons: the edit nan_inside stands on them, and what std says of
+// `contains` on doubles goes by `partial_cmp`, so that one call takes a written answer of twelve lines.
 pub fn within_f64(low: f64, x: f64, high: f64) -> bool
     ensures { result ≡ within low x high }
 {

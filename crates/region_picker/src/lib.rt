@@ -3,7 +3,8 @@
 // part/region_picker.h says it in a maker's words. No function has a `requires`: whatever a caller hands in, the answer is
 // the one that the contract names.
 //
-// A profile's record is seven numbers in a lent array, in the order of their constants below, and the threshold, which the caller keeps.
+// A profile's record is seven numbers in a lent array, in the order of their names in part/region_picker.h, and the threshold, which the
+// caller keeps.
 #![tactic(auto)]
 
 mod answer;

@@ -66,7 +66,7 @@ pub fn region_picker_kernel(
     ensures { Copies filter_size max_filter_size kernel.old kernel.new
         full.now narrow.now result }
 {
-    // a kernel's length, which band_pass_kernel works out for itself too (`band_of`)
+    // a kernel's length, as band_pass_kernel's private `band_of`: made public, that would take a clause and edits for one line
     let n = 2 * filter_size as usize + 1;
     if (kernel.len() < n) | ((full.len() < n) | (narrow.len() < n)) {
         return Refusal::Buffer.number();

@@ -16,4 +16,4 @@ returns c =
     let lengths = test in
     let a = lengths.args in
     let long : length a.table.now ≡ table_length (ploidy_of a.params) = omega arith in
-    rw (eq-eqb (length a.table.now) (table_length (ploidy_of a.params)) long, c.same_positive-multiplier.ensures, c.same_positive-ploidy.ensures, lengths.row_length-row.ensures.0)
+    rw (eq-eqb (length a.table.now) (table_length (ploidy_of a.params)) long, c.same_positive-multiplier.ensures, c.same_positive-ploidy.ensures, c.from.ensures, lengths.row_length-row.ensures.0)
