@@ -1,7 +1,7 @@
 // A run of the region program: blocks of words in, the text of a listing or of a sheet out, and of a refusal. What a
 // block prints is worked out here, byte by byte; reading and writing are the program's. No public function has a
 // `requires`. Memory and tables are lent side by side, as to region_stream: tables may be shared by runs, and memory is one
-// run's own.
+// run's own. `Running` holds a run with all that is lent to it.
 #![tactic(auto)]
 
 ghost use Rattle.std.specs.Prelude.{◌≡◌, false, ◌++◌, ◌+◌, ◌≤◌, ◌<◌, length, take};
@@ -10,9 +10,12 @@ ghost use Rattle.region_program.specs.Tables.{table_score};
 ghost use Rattle.region_run.specs.Run.{found_text, form_after, Steps, Feeds, Finishes, ROOM as room_of};
 ghost use Rattle.region_print.specs.Buffers.{MOST as most_added};
 
+mod running;
+
 use region_feed::Found;
 use region_print::Form;
 use region_program::{RegionStream, StreamMemory, StreamTables};
+pub use running::Running;
 
 // The bytes of a block's text. standard_io has one of the same size: region_run does not read or write, and has its own.
 pub const BLOCK: usize = 65536;

@@ -7,33 +7,27 @@ ghost use Rattle.std.specs.Prelude.{◌≡◌, ◌≤◌, length};
 
 use answer_list::{Compared, number_at, word_at};
 use region_print::Form;
-use region_program::{StreamMemory, StreamTables};
-use region_run::{BLOCK, RegionRun};
+use region_program::StreamTables;
+use region_run::Running;
 
 // Whether a run over the items, and then to the end of the input, prints what the answer has.
 pub fn stream(form: Form, words: &[u64], tables: &StreamTables) -> bool {
     let length = text_of(words);
     let results = length.wrapping_add(1);
     let mut replay = Replay {
-        run: region_run::start(form),
+        running: Running::starting(form, tables),
         compared: Compared::starting(words, results),
-        text: [0; BLOCK],
-        memory: StreamMemory::new(),
-        tables,
     };
     replay.items();
     replay.end();
     replay.compared.whole() & ends_at(words, results, word_at(words, length))
 }
 
-// The run, the words of the answer and how far what it printed was compared with them, and what is lent to the run.
+// The run, the words of the answer, and how far what the run printed was compared with them.
 #[derive(Drop)]
 struct Replay<'a> {
-    run: RegionRun,
+    running: Running<'a>,
     compared: Compared<'a>,
-    text: [u8; BLOCK],
-    memory: StreamMemory,
-    tables: &'a StreamTables,
 }
 
 impl Replay<'_> {
@@ -53,7 +47,7 @@ impl Replay<'_> {
         let step = number_at(words, at.wrapping_add(1));
         let mut raise = 0;
         for _ in 0..number_at(words, at) {
-            if self.run.over {
+            if self.running.run.over {
                 return;
             }
             self.group(at, raise);
@@ -66,7 +60,7 @@ impl Replay<'_> {
         let words = self.compared.words;
         let first = at.wrapping_add(3);
         for k in 0..number_at(words, at.wrapping_add(2)) as usize {
-            if self.run.over {
+            if self.running.run.over {
                 return;
             }
             let w = number_at(words, first.wrapping_add(k));
@@ -74,51 +68,39 @@ impl Replay<'_> {
         }
     }
 
-    // One word, fed until it is done; what it prints is compared as it comes. A `while`, since a call says how far it came, and
-    // need not have come to the end of the word.
+    // One word, fed until it is done; what it prints is compared as it comes.
     fn word(&mut self, w: u32) {
         let block = [w];
-        self.run.at = 0;
-        while self.run.at < block.len() {
-            self.run = region_run::feed(
-                self.run,
-                &block,
-                &mut self.text,
-                &mut self.memory,
-                self.tables,
-            );
+        let mut rest = &block[..];
+        while !rest.is_empty() {
+            rest = self.running.feed(rest);
             self.compare();
-            if self.run.over {
-                return;
-            }
         }
     }
 
     // The end of the input, where the run is not over.
     fn end(&mut self) {
-        if self.run.over {
+        if self.running.run.over {
             return;
         }
         let remainder = word_at(self.compared.words, 1) != 0;
-        self.run = region_run::end(
-            self.run,
-            remainder,
-            &mut self.text,
-            &mut self.memory,
-            self.tables,
-        );
+        self.running.end(remainder);
         self.compare();
     }
 
     // With the text that is in use compared, each byte with a word of the answer.
     fn compare(&mut self)
-        ensures { self.new.run ≡ self.old.run }
+        ensures { self.new.running ≡ self.old.running }
     {
-        let printed = &self.text[..self.run.used.min(BLOCK)];
-        self.compared = printed
-            .iter()
-            .fold(self.compared, |c, byte| c.word(u64::from(*byte)));
+        self.compared = with_bytes(self.compared, self.running.printed());
     }
+}
+
+// With these bytes compared, each with a word of the answer.
+fn with_bytes<'a>(compared: Compared<'a>, bytes: &[u8]) -> Compared<'a> {
+    bytes
+        .iter()
+        .fold(compared, |c, byte| c.word(u64::from(*byte)))
 }
 
 // Whether so many words stand from `from` on.
