@@ -20,26 +20,16 @@ pub fn length_within(words: &[u64], i: usize, most: usize) -> usize
     word_at(words, i).min(most as u64) as usize
 }
 
-// The doubles from word `at` on. Here and in `filled` a loop: by `std::array::from_fn` the proof of the clause, which is by
-// `tabulate`, did not close. The two are not one function over a closure: it would ask that the closure can be called, and say
-// of each entry what the closure answers, which is longer than a loop more.
+// The doubles from word `at` on.
 pub fn doubles_from(words: &[u64], at: usize) -> [f64; 1024]
     ensures { result ≡ tabulate (double_at words.now at) 1024 }
 {
-    let mut into = [0.0f64; 1024];
-    for (i, x) in into.iter_mut().enumerate() {
-        *x = double_at(words, at.wrapping_add(i));
-    }
-    into
+    std::array::from_fn(|i| double_at(words, at.wrapping_add(i)))
 }
 
 // Entry i is the double whose bits are `first` + i: what a lent buffer holds before a call.
 pub fn filled(first: u64) -> [f64; 1024]
     ensures { result ≡ tabulate (pattern_at first) 1024 }
 {
-    let mut into = [0.0f64; 1024];
-    for (i, x) in into.iter_mut().enumerate() {
-        *x = f64_from_bits_with_nan(first.wrapping_add(i as u64));
-    }
-    into
+    std::array::from_fn(|i| f64_from_bits_with_nan(first.wrapping_add(i as u64)))
 }

@@ -1,5 +1,6 @@
 // The functions that an answer may be of, by their numbers and names (docs/LISTS.md).
-ghost use Rattle.answer_list.specs.Functions.{NamesFunction};
+ghost use Rattle.std.specs.Prelude.{Some};
+ghost use Rattle.answer_list.specs.Functions.{NamesFunction, function_name};
 
 use std::fmt;
 
@@ -32,7 +33,7 @@ pub enum Function {
 pub const FUNCTIONS: usize = 20;
 
 impl Function {
-    // All of them, in the order of their numbers.
+    // All of them, in the order of their numbers (`all_in_order` in specs/Functions.antt).
     pub const ALL: [Function; FUNCTIONS] = [
         Function::Exp,
         Function::Ln,
@@ -96,6 +97,8 @@ impl TryFrom<u64> for Function {
 
 // The name by which a replay tells how many answers agree.
 impl fmt::Display for Function {
+    ghost output = { λ function. Some (function_name function) };
+
     fn fmt<W: fmt::Write>(&self, f: &mut fmt::Formatter<W>) -> fmt::Result {
         f.write_str(match self {
             Function::Exp => "exp",

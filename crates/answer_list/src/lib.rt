@@ -32,6 +32,11 @@ pub enum ReadError {
 }
 
 impl From<io::Error> for ReadError {
+    ghost use Rattle.std.specs.Prelude.{◌≡◌};
+    ghost use Rattle.answer_list.specs.declared.ReadError.TheVariants.{Io};
+
+    ghost from_gives = { λ e r. r ≡ Io e };
+
     fn from(e: io::Error) -> ReadError {
         ReadError::Io(e)
     }

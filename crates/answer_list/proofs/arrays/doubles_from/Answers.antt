@@ -1,20 +1,9 @@
--- `doubles_from` meets its contract: the entries before i are as the rule says, the others as they were.
-use Rattle.std.proofs.Common.{sym, ◌∙◌, arith}
-use lib.Ieee.{nan}
-use Rattle.lists.specs.Each.{up_to_zero, up_to_put, up_to_all, fixed, each-fixed}
+-- `doubles_from` meets its contract: each call answers the double at its index.
+use Rattle.std.proofs.Common.{rules}
 use Rattle.answer_list.specs.Arrays.{double_at}
+use Rattle.answer_list.proofs.Made.{made}
 use Rattle.answer_list.proofs.arrays.doubles_from.Goals as goal
 
-pub loop-i-init : goal.loop-i-init
-loop-i-init c = sym (up_to_zero _ _)
-
-pub loop-i-preserved : goal.loop-i-preserved
-unfolding double_at
-loop-i-preserved c =
-    let a = c.args in
-    up_to_put (fixed (double_at a.words.now a.at)) c.loop-i.i _ _ nan _ c.loop-i.invariant (omega arith) (simp c.double_at.ensures)
-
 pub returns : goal.returns
-returns c =
-    let f = double_at c.args.words.now c.args.at in
-    c.loop-i.invariant ∙ up_to_all (fixed f) _ _ (omega arith) ∙ each-fixed f _
+unfolding double_at
+returns c = made (double_at c.args.words.now c.args.at) (λ i x q call. search rules) c.from_fn.ensures.items

@@ -1,8 +1,0 @@
--- `doubles_from` meets its contract: the entries before i are as the rule says, the others as they were.
-use Rattle.std.proofs.Common.{◌≡◌}
-use Rattle.lists.specs.Each.{up_to, fixed}
-use Rattle.answer_list.specs.Arrays.{double_at}
-use Rattle.answer_list.proofs.arrays.doubles_from.Given as goal
-
-abbrev pub invariant-loop-i : goal.invariant-loop-i
-invariant-loop-i l = l.x-items ≡ up_to (fixed (double_at l.words l.at)) l.i l.initial.x-items
