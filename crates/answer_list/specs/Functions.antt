@@ -1,4 +1,4 @@
--- docs/LISTS.md: the numbers of the functions that an answer may be of.
+-- docs/LISTS.md: the functions that an answer may be of, by their numbers and names.
 use Rattle.std.specs.Prelude.{◌≡◌, refl, ◌⊎◌, ◌<◌, ℕ, suc, List, map, Result, MatchResult, codes}
 use Rattle.lists.specs.Each.{tabulate}
 use Rattle.answer_list.specs.declared.functions.TheConstants.{FUNCTIONS}

@@ -22,7 +22,8 @@ pub fn replay(function: u64, words: &[u64]) -> bool
 
 // Whether the library's results are those of an answer of that function; true of these functions alone.
 pub fn agrees(function: Function, words: &[u64]) -> bool
-    ensures { result ≡ true → ((1 ≤ function_number function) × (function_number function ≤ 9)) ⊎ (function_number function ≡ 19) }
+    ensures { result ≡ true →
+        ((1 ≤ function_number function) × (function_number function ≤ 9)) ⊎ (function_number function ≡ 19) }
 {
     match function {
         Function::Exp => one_double(words, elementary::exp(double_at(words, 0))),

@@ -4,9 +4,9 @@ use answer_list::{Compared, length_at, number_at, word_at};
 // k, cigar[k], n, qualities[n]; the refusal's number or 0, and where 0 the count.
 pub(crate) fn clip_count(words: &[u64]) -> bool {
     let k = length_at(words, 0);
-    let cigar = numbers_from(words, 1);
+    let cigar = at_each(words, 1, |w, i| number_at(w, i));
     let n = length_at(words, 1 + k);
-    let qualities = bytes_from(words, 2 + k);
+    let qualities = at_each(words, 2 + k, byte_at);
     let found = hq_soft_clip::count_high_quality_soft_clip_bases_rcm(&cigar[..k], &qualities[..n]);
     let c = Compared::starting(words, 2 + k + n);
     match found {
@@ -15,15 +15,12 @@ pub(crate) fn clip_count(words: &[u64]) -> bool {
     }
 }
 
-// The 32-bit numbers from word `at` on. It and `bytes_from` are a line each: one function of both would take a closure at each
-// call, and a `requires` that it can be called.
-pub(crate) fn numbers_from(words: &[u64], at: usize) -> [u32; 1024] {
-    std::array::from_fn(|i| number_at(words, at.wrapping_add(i)))
-}
-
-// The bytes from word `at` on.
-fn bytes_from(words: &[u64], at: usize) -> [u8; 1024] {
-    std::array::from_fn(|i| byte_at(words, at.wrapping_add(i)))
+// What `read` answers at each place from `at` on. `number_at` comes in a closure: as a value, a function of another crate
+// did not prove.
+pub(crate) fn at_each<T, F: Fn(&[u64], usize) -> T>(words: &[u64], at: usize, read: F) -> [T; 1024]
+    requires { F.IsAlwaysCallable read }
+{
+    std::array::from_fn(|i| read(words, at.wrapping_add(i)))
 }
 
 // The low byte of word i.

@@ -22,7 +22,8 @@ pub fn replay(function: u64, words: &[u64]) -> bool
 
 // Whether the library's results are those of an answer of that function; true of these functions alone.
 pub fn agrees(function: Function, words: &[u64]) -> bool
-    ensures { result ≡ true → ((13 ≤ function_number function) × (function_number function ≤ 16)) ⊎ (function_number function ≡ 20) }
+    ensures { result ≡ true →
+        ((13 ≤ function_number function) × (function_number function ≤ 16)) ⊎ (function_number function ≡ 20) }
 {
     match function {
         Function::ClipCount => clips::clip_count(words),

@@ -1,7 +1,7 @@
 // Scores of piles, and of sets of them.
 ghost use Rattle.std.specs.Prelude.{◌≤◌};
 
-use crate::clips::{byte_at, numbers_from};
+use crate::clips::{at_each, byte_at};
 use activity_profile::{ActivityEvidence, ActivityProfileState};
 use answer_list::{Compared, double_at, length_at, number_at, word_at};
 use genome::{GenomePosition, Ploidy, Refusal};
@@ -29,7 +29,7 @@ pub(crate) fn score_set(words: &[u64]) -> bool {
     let k = length_at(words, 10);
     let m = length_at(words, 11 + k);
     let run = run_from(words, 11, k, n);
-    let lengths = numbers_from(words, 12 + k);
+    let lengths = at_each(words, 12 + k, |w, i| number_at(w, i));
     let scored = multi_sample_scoring::haplotype_caller_activity_profile_state_multi_sample(
         number_at(words, 0),
         GenomePosition(number_at(words, 1)),
