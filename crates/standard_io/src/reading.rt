@@ -4,7 +4,7 @@ ghost use Rattle.std.specs.Io.{ReadsAtMost};
 ghost use Rattle.std.specs.Io.KnownBytes.{Consumes, IsAtEnd, Keeps};
 ghost use Rattle.lists.specs.Each.{each};
 ghost use Rattle.standard_io.specs.Taken.{Takes};
-ghost use Rattle.standard_io.specs.Words.{Reads, BLOCK as block_size, word_at, read_word, moved_byte, kept_of};
+ghost use Rattle.standard_io.specs.Words.{Reads, BLOCK as block_size, read_word, moved_byte, kept_of};
 
 use crate::{BLOCK, Input, WORDS};
 use std::io;
@@ -86,25 +86,19 @@ fn read_once<R: Read>(reader: &mut R, bytes: &mut [u8]) -> io::Result<usize>
     Err(io::Error::from(ErrorKind::Interrupted))
 }
 
-// Reads the whole words of the first n bytes, and answers how many they are.
+// Reads the whole words of the first n bytes, and answers how many they are. By place: of words that an adapter of `iter_mut`
+// lends, as a zip with the four bytes of each does, nothing is known after the loop.
 fn words_of(bytes: &[u8; BLOCK], n: usize, words: &mut [u32; WORDS]) -> usize
     requires { n ≤ block_size }
     ensures value { result ≡ n / 4 }
     ensures words_after { words.new ≡ each (read_word bytes.now (n / 4)) words.old }
 {
     let count = n / 4;
+    let (quads, _) = bytes.as_chunks::<4>();
     for (i, w) in words[..count].iter_mut().enumerate() {
-        *w = word_at(bytes, 4 * i);
+        *w = u32::from_le_bytes(quads[i]);
     }
     count
-}
-
-// The little-endian word at a byte.
-fn word_at(bytes: &[u8], at: usize) -> u32
-    requires { at + 4 ≤ length bytes.now }
-    ensures { result ≡ word_at bytes.now at }
-{
-    u32::from_le_bytes([bytes[at], bytes[at + 1], bytes[at + 2], bytes[at + 3]])
 }
 
 // Moves the bytes behind the last whole word of the first n to the front of the block, and answers how many they are.

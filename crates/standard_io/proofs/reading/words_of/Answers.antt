@@ -1,8 +1,9 @@
 -- `words_of` meets its contract: the words before i are read.
-use Rattle.std.proofs.Common.{◌≡◌, ◌/◌, ◌<◌, ◌∙◌, sym, arith, le-ltb, lt-ltb}
+use Rattle.std.proofs.Common.{◌≡◌, ◌/◌, ◌<◌, ◌∙◌, sym, arith, le-ltb, lt-ltb, length}
 use Rattle.std.proofs.lemmas.List.{length-take-le}
 use Rattle.lists.specs.Each.{up_to_front, up_to_put, up_to-rest, up_to_zero}
 use Rattle.standard_io.specs.Words.{read_word}
+use Rattle.standard_io.proofs.Quads.{quad}
 use Rattle.standard_io.proofs.reading.words_of.Goals as goal
 
 pub loop-i-init : goal.loop-i-init
@@ -13,7 +14,8 @@ loop-i-preserved c =
     let a = c.args in
     let wide = length-take-le (a.n / 4) a.words.now (omega (arith, c.requires)) in
     let below : c.loop-i.i < a.n / 4 = omega (arith, wide, c.loop-i-test.true) in
-    up_to_put (read_word a.bytes.now (a.n / 4)) c.loop-i.i _ _ 0 _ c.loop-i.invariant c.loop-i-test.true (simp (lt-ltb _ _ below) c.word_at.ensures)
+    let word = quad a.bytes.now (length a.bytes.now / 4) c.loop-i.i _ (omega (arith, below, c.requires)) c.as_chunks.ensures.front in
+    up_to_put (read_word a.bytes.now (a.n / 4)) c.loop-i.i _ _ 0 _ c.loop-i.invariant c.loop-i-test.true (simp (lt-ltb _ _ below) (c.from_le_bytes.ensures ∙ word))
 
 pub returns-clause-words_after : goal.returns-clause-words_after
 returns-clause-words_after c =
