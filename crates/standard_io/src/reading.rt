@@ -66,7 +66,8 @@ fn read_behind<R: Read>(
     Ok(Input::Words { count, kept: rest })
 }
 
-// One read, which is tried again where a signal interrupts it before it brings a byte.
+// One read, which is tried again where a signal interrupts it before it brings a byte, in a `for` with a bound, since every
+// loop has to end.
 fn read_once<R: Read>(reader: &mut R, bytes: &mut [u8]) -> io::Result<usize>
     ensures bound { ReadsAtMost result bytes.new }
     ensures ok { IfOk result (λ n. Consumes (R.remaining reader.old) (R.remaining reader.new) (take n bytes.new)) }

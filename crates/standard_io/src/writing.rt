@@ -18,19 +18,20 @@ pub fn write_front<W: Write>(writer: &mut W, block: &[u8; BLOCK], n: usize) -> i
 }
 
 // Writes every byte in its order, or stops at a write that fails or takes nothing. One that a signal interrupts is tried
-// again. It is not std's `write_all`: that says nothing of what was written on an error, and the clause `err` does.
+// again, in a `for` with a bound, since every loop has to end. It is not std's `write_all`: that says nothing of what was
+// written on an error, and the clause `err` does.
 fn write_all<W: Write>(writer: &mut W, bytes: &[u8]) -> io::Result<()>
     ensures ok { OnOk result (Appends (W.contents writer.old) (W.contents writer.new) bytes.now) }
     ensures err { OnErr result (FrontWritten (W.contents writer.old) (W.contents writer.new) bytes.now) }
 {
-    let mut done = 0;
+    let mut rest = bytes;
     for _ in 0..u64::MAX {
-        if done == bytes.len() {
+        if rest.is_empty() {
             return Ok(());
         }
-        match writer.write(&bytes[done..]) {
+        match writer.write(rest) {
             Ok(0) => return Err(io::Error::from(ErrorKind::WriteZero)),
-            Ok(got) => done += got,
+            Ok(got) => rest = &rest[got..],
             Err(e) => {
                 if e.kind() != ErrorKind::Interrupted {
                     return Err(e);
