@@ -5,7 +5,8 @@ use Rattle.std.proofs.Common.{sym, subst, ◌∙◌, arith, ext_get_or}
 use denote.Param.Members.{Mut, Called}
 use Rattle.lists.specs.Each.{tabulate, length-tabulate, get_or-tabulate}
 
-module _ {F A : Type 0} {g : Mut F (ℕ × Unit {0}) A} {p : F} (f : ℕ → A) (answers : (i : ℕ) (x : A) (q : F) → Called g p (i, tt) x q → (x ≡ f i) × (q ≡ p)) where
+module _ {F A : Type 0} {g : Mut F (ℕ × Unit {0}) A} {p : F} (f : ℕ → A)
+    (answers : (i : ℕ) (x : A) (q : F) → Called g p (i, tt) x q → (x ≡ f i) × (q ≡ p)) where
   -- the element at m, which one of the n calls from index i on made
   element : (xs : List A) (i n k m : ℕ) (d : A) → IsFromFnResultFrom g p xs i n → k < n → m ≡ i + k → get_or xs m d ≡ f m
   element xs i zero k m d none h e = absurd (omega arith)

@@ -9,7 +9,8 @@ abbrev pub FitsIn : ℕ → Option Answer → Type 0
 FitsIn n (Some answer) = answer.count ≤ n
 FitsIn n None = Unit
 
--- What a read that fails leaves of the slice: n words may have come by then, never all that the slice has room for, and from word n on it is as it was.
+-- What a read that fails leaves of the slice: n words may have come by then, never all that the slice has room for, and from word n on it
+-- is as it was.
 pub record Begun (old new : List ℕ) : Type 0 where
   pub n : ℕ
   pub not_all : n ≤ length old - 1

@@ -19,21 +19,20 @@ impl<'a> Compared<'a> {
     }
 
     // With the next word compared.
-    #[tactic(auto, using(std::proofs::lemmas::Bool::Decides::nat_tests), unfolding(crate::specs::Compare::with_word))]
+    #[tactic(auto, unfolding(crate::specs::Compare::with_word))]
     pub fn word(self, w: u64) -> Compared<'a>
         ensures { result ≡ with_word self.entry w }
     {
-        let at = self.at;
-        if at < self.words.len() {
-            return Compared {
-                at: at + 1,
-                same: self.same & (self.words[at] == w),
+        match self.words.get(self.at) {
+            Some(word) => Compared {
+                at: self.at + 1,
+                same: self.same & (*word == w),
                 ..self
-            };
-        }
-        Compared {
-            same: false,
-            ..self
+            },
+            None => Compared {
+                same: false,
+                ..self
+            },
         }
     }
 

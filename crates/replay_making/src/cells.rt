@@ -10,7 +10,8 @@ pub(crate) fn cells_needed(words: &[u64]) -> bool {
         number_at(words, 3),
     );
     let c = Compared::starting(words, 4);
-    // Written out here and in the other crates: a helper would take what stands in the first arm as a closure, and be no plainer.
+    // Written out here and in the other crates: a helper for all of them would be public, take what stands in the first arm as
+    // a closure, and require that it can be called. No public function has a `requires`.
     match needed {
         Ok(n) => c.word(0).word(u64::from(n)).whole(),
         Err(why) => c.word(u64::from(why.number())).whole(),

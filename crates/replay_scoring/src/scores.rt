@@ -82,14 +82,14 @@ const RUN: usize = 65536;
 
 // The depth in word i, cut to the room that there is.
 fn depth_at(words: &[u64], i: usize) -> usize
-    ensures { result ≤ 65536 }
+    ensures { result ≤ RUN }
 {
     answer_list::length_within(words, i, RUN)
 }
 
 // The first n words of a run that goes round the k words from word `at` on. An array, for there is no heap; the caller cuts it.
 fn run_from(words: &[u64], at: usize, k: usize, n: usize) -> [u32; RUN]
-    requires { n ≤ 65536 }
+    requires { n ≤ RUN }
 {
     let round = k.max(1);
     let mut run = [0u32; RUN];

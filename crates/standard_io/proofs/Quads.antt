@@ -14,5 +14,8 @@ byte l (suc n) (suc k) j m h below e =
 pub quad : (l : List ℕ) (n k : ℕ) (qs : List (List ℕ)) → k < n → qs ≡ first_chunks 4 n l → let q = get_or qs k [] in
     get_or q 0 0 + get_or q 1 0 * 256 + get_or q 2 0 * 65536 + get_or q 3 0 * 16777216 ≡ word_at l (4 * k)
 quad l n k qs h e =
-    let at = λ (j m : ℕ) (below : j < 4) (s : m ≡ 4 * k + j). byte l n k j m h below s in
-    rw (e, at 0 (4 * k) (omega arith) (omega arith), at 1 (4 * k + 1) (omega arith) refl, at 2 (4 * k + 2) (omega arith) refl, at 3 (4 * k + 3) (omega arith) refl) (omega arith)
+    let first = byte l n k 0 (4 * k) h (omega arith) (omega arith) in
+    let second = byte l n k 1 (4 * k + 1) h (omega arith) refl in
+    let third = byte l n k 2 (4 * k + 2) h (omega arith) refl in
+    let fourth = byte l n k 3 (4 * k + 3) h (omega arith) refl in
+    rw (e, first, second, third, fourth) (omega arith)

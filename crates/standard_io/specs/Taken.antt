@@ -1,5 +1,5 @@
--- What a reading takes of a reader whose bytes are known: those that come are the reader's next, and the end is the reader's. Where they are not known, as at a
--- file or a pipe, it says nothing of them.
+-- What a reading takes of a reader whose bytes are known: those that come are the reader's next, and the end is the reader's. Where they
+-- are not known, as at a file or a pipe, it says nothing of them.
 use Rattle.std.specs.Prelude.{◌≡◌, ℕ, ◌<◌, List, [], ◌++◌, length, take}
 use Rattle.std.specs.Io.KnownBytes.{Consumes, IsAtEnd}
 use Rattle.std.specs.declared.option.Option.{Option}
@@ -7,7 +7,8 @@ use Rattle.standard_io.specs.Words.{WordsRead}
 use Rattle.standard_io.specs.declared.Input.{Input}
 use Rattle.standard_io.specs.declared.Input.TheVariants.{Words, End}
 
--- Words came, as WordsRead says of them. In its block, behind the bytes that were kept, stand those that came, at least one, and they are the reader's next.
+-- Words came, as WordsRead says of them. In its block, behind the bytes that were kept, stand those that came, at least one, and they are
+-- the reader's next.
 pub record WordsTaken (left left' : Option (List ℕ)) (from : ℕ) (bytes bytes' words words' : List ℕ) (count kept : ℕ) : Type 0 where
   pub words_read : WordsRead from bytes bytes' words words' count kept
   pub came : List ℕ

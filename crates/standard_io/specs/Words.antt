@@ -1,14 +1,9 @@
 -- The blocks of the input, and the words in them.
 use Rattle.std.specs.Prelude.{cond, not, List, ◌≡◌, ℕ, ◌+◌, ◌-◌, ◌*◌, ◌/◌, ◌%◌, ◌≤◌, ltb, eqb, get_or, take}
 use Rattle.lists.specs.Each.{each}
+use Rattle.standard_io.specs.declared.TheConstants.{BLOCK}
 use Rattle.standard_io.specs.declared.Input.{Input}
 use Rattle.standard_io.specs.declared.Input.TheVariants.{Words, End}
-
-abbrev pub BLOCK : ℕ
-BLOCK = 65536
-
-abbrev pub WORDS : ℕ
-WORDS = 16384
 
 -- the bytes kept of a word
 abbrev pub kept_of : Input → ℕ
@@ -23,14 +18,15 @@ word_at bytes at = get_or bytes at 0 + 256 * (get_or bytes (at + 1) 0 + 256 * (g
 abbrev pub read_word : List ℕ → ℕ → ℕ → ℕ → ℕ
 read_word bytes n k w = cond (ltb k n) (word_at bytes (4 * k)) w
 
--- a rule for the bytes of a block, of which n are read: those behind the last whole word come to the front, and the others keep what they hold
+-- a rule for the bytes of a block, of which n are read: those behind the last whole word come to the front, and the others keep what they
+-- hold
 abbrev pub moved_byte : List ℕ → ℕ → ℕ → ℕ → ℕ
 moved_byte bytes n k b = cond (ltb k (n % 4)) (get_or bytes (n - n % 4 + k) 0) b
 
 -- ---- what a reading leaves
 
--- Words came: `read` is the block as the read left it, n bytes of it in use, those that were kept in front. The words are those of its bytes, and what is behind the
--- last whole one is kept.
+-- Words came: `read` is the block as the read left it, n bytes of it in use, those that were kept in front. The words are those of its
+-- bytes, and what is behind the last whole one is kept.
 pub record WordsRead (from : ℕ) (bytes bytes' words words' : List ℕ) (count kept : ℕ) : Type 0 where
   pub read : List ℕ
   pub n : ℕ

@@ -1,4 +1,5 @@
--- `read_behind` meets its contract: the words and the rest are those of the block as the read left it, and the bytes that came are the reader's.
+-- `read_behind` meets its contract: the words and the rest are those of the block as the read left it, and the bytes that came are the
+-- reader's.
 use Rattle.std.proofs.Common.{◌≡◌, ℕ, ◌+◌, ◌-◌, ◌≤◌, List, ◌++◌, length, take, drop, ap, ◌∙◌, arith, length-drop}
 use Rattle.std.proofs.lemmas.List.{length-take-le, take-append-le}
 use Rattle.std.proofs.Math.Seq.{take-append-add, take_at}

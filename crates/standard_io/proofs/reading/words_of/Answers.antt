@@ -15,7 +15,9 @@ loop-i-preserved c =
     let wide = length-take-le (a.n / 4) a.words.now (omega (arith, c.requires)) in
     let below : c.loop-i.i < a.n / 4 = omega (arith, wide, c.loop-i-test.true) in
     let word = quad a.bytes.now (length a.bytes.now / 4) c.loop-i.i _ (omega (arith, below, c.requires)) c.as_chunks.ensures.front in
-    up_to_put (read_word a.bytes.now (a.n / 4)) c.loop-i.i _ _ 0 _ c.loop-i.invariant c.loop-i-test.true (simp (lt-ltb _ _ below) (c.from_le_bytes.ensures ∙ word))
+    let rule = read_word a.bytes.now (a.n / 4) in
+    let read = c.from_le_bytes.ensures ∙ word in
+    up_to_put rule c.loop-i.i _ _ 0 _ c.loop-i.invariant c.loop-i-test.true (simp (lt-ltb _ _ below) read)
 
 pub returns-clause-words_after : goal.returns-clause-words_after
 returns-clause-words_after c =
