@@ -24,17 +24,16 @@ pub fn read_answer<R: io::Read>(
         return Err(ReadError::Malformed);
     }
     let count = size as usize;
-    read_words(reader, words, count)?;
+    read_words(reader, &mut words[..count])?;
     Ok(Some(Answer { function, count }))
 }
 
-// Reads n words; a list that ends before is malformed.
-fn read_words<R: io::Read>(reader: &mut R, words: &mut [u64], n: usize) -> Result<(), ReadError>
-    requires { n ≤ length words.old }
+// Reads words into the whole slice; a list that ends before is malformed.
+fn read_words<R: io::Read>(reader: &mut R, words: &mut [u64]) -> Result<(), ReadError>
     ensures same_length { length words.new ≡ length words.old }
     ensures err { OnErr result (Begun words.old words.new) }
 {
-    for w in words[..n].iter_mut() {
+    for w in words.iter_mut() {
         *w = read_word(reader)?.ok_or(ReadError::Malformed)?;
     }
     Ok(())

@@ -1,9 +1,11 @@
 -- The blocks of the input, and the words in them.
 use Rattle.std.specs.Prelude.{cond, not, List, ◌≡◌, ℕ, ◌+◌, ◌-◌, ◌*◌, ◌/◌, ◌%◌, ◌≤◌, ltb, eqb, get_or, take}
 use Rattle.lists.specs.Each.{each}
-use Rattle.standard_io.specs.declared.TheConstants.{BLOCK}
 use Rattle.standard_io.specs.declared.Input.{Input}
 use Rattle.standard_io.specs.declared.Input.TheVariants.{Words, End}
+
+abbrev pub BLOCK : ℕ
+BLOCK = 65536
 
 -- the bytes kept of a word
 abbrev pub kept_of : Input → ℕ

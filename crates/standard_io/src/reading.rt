@@ -4,7 +4,7 @@ ghost use Rattle.std.specs.Io.{ReadsAtMost};
 ghost use Rattle.std.specs.Io.KnownBytes.{Consumes, IsAtEnd, Keeps};
 ghost use Rattle.lists.specs.Each.{each};
 ghost use Rattle.standard_io.specs.Taken.{Takes};
-ghost use Rattle.standard_io.specs.Words.{Reads, read_word, moved_byte, kept_of};
+ghost use Rattle.standard_io.specs.Words.{Reads, BLOCK as block_size, read_word, moved_byte, kept_of};
 
 use crate::{BLOCK, Input, WORDS};
 use std::io;
@@ -87,10 +87,11 @@ fn read_once<R: Read>(reader: &mut R, bytes: &mut [u8]) -> io::Result<usize>
     Err(io::Error::from(ErrorKind::Interrupted))
 }
 
-// Reads the whole words of the first n bytes, and answers how many they are. By place: of words that an adapter of `iter_mut`
-// lends, as a zip with the four bytes of each does, nothing is known after the loop.
+// Reads the whole words of the first n bytes, and answers how many they are. The block and n are two arguments, here and in
+// keep_rest: the block is fixed memory, and read_word and moved_byte are of the whole of it. The four bytes of a word by its
+// place: of words that a zip lends nothing is known after the loop.
 fn words_of(bytes: &[u8; BLOCK], n: usize, words: &mut [u32; WORDS]) -> usize
-    requires { n ≤ BLOCK }
+    requires { n ≤ block_size }
     ensures value { result ≡ n / 4 }
     ensures words_after { words.new ≡ each (read_word bytes.now (n / 4)) words.old }
 {
@@ -104,7 +105,7 @@ fn words_of(bytes: &[u8; BLOCK], n: usize, words: &mut [u32; WORDS]) -> usize
 
 // Moves the bytes behind the last whole word of the first n to the front of the block, and answers how many they are.
 fn keep_rest(bytes: &mut [u8; BLOCK], n: usize) -> usize
-    requires { n ≤ BLOCK }
+    requires { n ≤ block_size }
     ensures value { result ≡ n % 4 }
     ensures bytes_after { bytes.new ≡ each (moved_byte bytes.old n) bytes.old }
 {

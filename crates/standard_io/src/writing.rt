@@ -9,7 +9,8 @@ use std::io::{ErrorKind, Write};
 
 // Writes the first n bytes of a block, or all where there are fewer, in their order. A write that fails or takes nothing is
 // an error: a front of those bytes was written then, and no byte behind it is. One that a signal interrupts is tried
-// again. What becomes of bytes that the system takes is outside the logic: the clauses are of a writer whose bytes are known.
+// again. What becomes of bytes that the system takes is outside the logic: the clauses are of a writer whose bytes are known. The
+// block and n are two arguments: the clauses (take n block) answer every n, past the block too.
 pub fn write_front<W: Write>(writer: &mut W, block: &[u8; BLOCK], n: usize) -> io::Result<()>
     ensures ok { OnOk result (Appends (W.contents writer.old) (W.contents writer.new) (take n block.now)) }
     ensures err { OnErr result (FrontWritten (W.contents writer.old) (W.contents writer.new) (take n block.now)) }

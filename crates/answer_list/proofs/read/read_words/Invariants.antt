@@ -3,4 +3,4 @@ use Rattle.std.proofs.Common.{◌≡◌, length, drop}
 use Rattle.answer_list.proofs.read.read_words.Given as goal
 
 abbrev pub invariant-loop-w : goal.invariant-loop-w
-invariant-loop-w g l = (length l.w-items ≡ length l.initial.w-items) × (drop l.w-index l.w-items ≡ drop l.w-index l.initial.w-items)
+invariant-loop-w g l = (length l.words ≡ length l.initial.words) × (drop l.w-index l.words ≡ drop l.w-index l.initial.words)
