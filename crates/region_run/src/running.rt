@@ -42,6 +42,7 @@ impl<'a> Running<'a> {
     {
         let run = RegionRun { at: 0, ..self.run };
         self.run = crate::feed(run, words, &mut self.text, &mut self.memory, self.tables);
+        // `feed` leaves a run that is over at the end of the block, but its clause, `Feeds`, does not say so.
         if self.run.over {
             return &words[words.len()..];
         }
