@@ -3,7 +3,8 @@
 #![tactic(auto)]
 
 ghost use Rattle.std.specs.Prelude.{◌≡◌, ◌≤◌, ltb};
-ghost use Rattle.activity_profile.specs.Add.{first_locus, highest, needed, broken_add, other_contig, off_contig, no_activity, not_next, add_verdict};
+ghost use Rattle.activity_profile.specs.Add.{first_locus, highest, needed, broken_add, other_contig, off_contig, no_activity};
+ghost use Rattle.activity_profile.specs.Add.{not_next, add_verdict};
 ghost use Rattle.activity_profile.specs.Verdict.{verdict_of};
 
 use activity_profile::{ActivityProfileState, BandPassActivityProfile};

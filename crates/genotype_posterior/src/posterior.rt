@@ -4,7 +4,8 @@ ghost use Rattle.std.specs.Float.{binary64};
 ghost use Rattle.std.specs.Float.Ieee.{mul};
 ghost use Rattle.elementary.specs.Ln.{log10_e};
 ghost use Rattle.lists.specs.Each.{each};
-ghost use Rattle.genotype_posterior.specs.Posterior.{ref_pseudocount, snp_pseudocount, log_binomial, ln_prior, unnormalized_all, non_ref, posterior, posterior_written};
+ghost use Rattle.genotype_posterior.specs.Posterior.{ref_pseudocount, snp_pseudocount, log_binomial, ln_prior};
+ghost use Rattle.genotype_posterior.specs.Posterior.{unnormalized_all, non_ref, posterior, posterior_written};
 ghost use Rattle.genotype_posterior.specs.Priors.{priors_length, prior_at, log10_priors, are_for, with_prior};
 ghost use Rattle.genotype_posterior.specs.Priors.{unnormalized_by, posterior_by, posterior_written_by};
 
@@ -55,8 +56,8 @@ pub fn calculate_single_sample_biallelic_non_ref_posterior(
 }
 
 // Each likelihood with the log10 of its genotype's prior added, which is worked out. That there is a genotype stands in four contracts:
-// the ploidy is one less than their number. A type of a slice that is not empty would be made by each of the two public functions,
-// and read as a slice in every line.
+// the ploidy is one less than their number. A type of a slice that is not empty would be made twice in `.._by_priors`, to write and then
+// to read, and read as a slice in every line.
 fn write_unnormalized(gl: &mut [f64], settings: Heterozygosity)
     requires { 0 < length gl.old }
     ensures { gl.new ≡ unnormalized_all settings.snp settings.standard_deviation gl.old }

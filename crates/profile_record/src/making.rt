@@ -8,8 +8,8 @@ use band_pass_kernel::BandPassActivityProfileParams;
 use genome::Refusal;
 
 // An empty profile of a contig, its kernel written to the lent buffers; `BandPassActivityProfileParams::normalized_kernel` is the
-// part of them that holds it: two slices, as C lends them. Refuses a setting outside its range, then a buffer that is too short; a refusal writes nothing.
-// A free function, since the record's type stands in a crate without functions.
+// part of them that holds it: two slices, as C lends them. Refuses a setting outside its range, then a buffer that is too
+// short; a refusal writes nothing. A free function, since the record's type stands in a crate without functions.
 #[tactic(auto, using(std::proofs::lemmas::Bool::Decides::nat_tests), unfolding(activity_profile::specs::Making::making, activity_profile::specs::Making::full_after_making, activity_profile::specs::Making::narrow_after_making))]
 pub fn new(
     contig: u32,
