@@ -1,7 +1,6 @@
 -- docs/LISTS.md: the functions that an answer may be of, by their numbers and names.
 use Rattle.std.specs.Prelude.{◌≡◌, refl, ◌⊎◌, ◌<◌, ℕ, suc, List, map, Result, MatchResult, codes}
 use Rattle.lists.specs.Each.{tabulate}
-use Rattle.answer_list.specs.declared.functions.TheConstants.{FUNCTIONS}
 use Rattle.answer_list.specs.declared.functions.TheConstants.Function.{ALL}
 use Rattle.answer_list.specs.declared.functions.Function.{Function}
 use Rattle.answer_list.specs.declared.functions.UnknownFunction.{UnknownFunction}
@@ -56,7 +55,7 @@ function_name Sheet = codes "sheet"
 function_name CellsNeeded = codes "cells needed"
 function_name SetScore = codes "score of a set"
 
--- `Function::ALL` has each function at its place: number k + 1 at k
-pub all_in_order : map function_number ALL ≡ tabulate suc FUNCTIONS
+-- `Function::ALL` has each of the twenty functions at its place: number k + 1 at k
+pub all_in_order : map function_number ALL ≡ tabulate suc 20
 unfolding tabulate
 all_in_order = refl

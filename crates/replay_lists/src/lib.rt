@@ -2,7 +2,8 @@
 // function has a `requires`.
 #![tactic(auto)]
 
-ghost use Rattle.std.specs.Prelude.{◌<◌};
+ghost use Rattle.std.specs.Prelude.{◌≡◌, ◌+◌};
+ghost use Rattle.answer_list.specs.Functions.{function_number};
 
 use answer_list::{FUNCTIONS, Function, ReadError};
 use region_print::Form;
@@ -155,9 +156,9 @@ impl Findings {
     }
 }
 
-// The place of a function's tally.
+// The place of a function's tally: that of the function in `Function::ALL`.
 fn place_of(function: Function) -> usize
-    ensures { result < 20 }
+    ensures { result + 1 ≡ function_number function }
 {
     function as usize - 1
 }
