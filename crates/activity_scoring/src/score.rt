@@ -62,7 +62,7 @@ pub fn haplotype_caller_activity_profile_state_by_tables(
 pub fn is_in_range(pos: GenomePosition, params: HaplotypeCallerActivityScoringParams) -> bool
     ensures { result ≡ in_range pos params }
 {
-    params.in_range() & (1..=genome::MAX_POSITION).contains(&pos.0)
+    params.in_range() & numbers::within_u32(1, pos.0, genome::MAX_POSITION)
 }
 
 // Whether every word is an observation: document 01's refusal 3. A fold, which takes no branch for a word: by `all`, and
@@ -111,7 +111,7 @@ pub fn evidence_of(mean: f64) -> ActivityEvidence
     ensures { result ≡ evidence_of mean }
 {
     if mean > AVERAGE_HQ_SOFTCLIPS_HQ_BASES_THRESHOLD {
-        let clip_bases = std::num::saturating_f64_to_u32(mean);
+        let clip_bases = numbers::as_u32(mean);
         return ActivityEvidence::HighQualitySoftClips { clip_bases };
     }
     ActivityEvidence::Plain

@@ -9,6 +9,7 @@ ghost use Rattle.activity_profile.specs.Verdict.{verdict_of};
 
 use activity_profile::{ActivityProfileState, BandPassActivityProfile};
 use genome::Refusal;
+use numbers::{greater, lesser, monus};
 use profile_record::is_broken;
 
 // The first refusal that applies to an add, in document 01's order, with so many cells and a kernel of so many entries lent.
@@ -93,8 +94,8 @@ fn lacks_cells(p: BandPassActivityProfile, s: ActivityProfileState, cells: usize
 pub fn cells_after(p: BandPassActivityProfile, s: ActivityProfileState) -> u64
     ensures { result ≡ needed p s }
 {
-    let reach = highest_of(p, s).saturating_sub(u64::from(first_locus(p, s)));
-    u64::from(p.count).max(reach + 1)
+    let reach = monus(highest_of(p, s), u64::from(first_locus(p, s)));
+    greater(u64::from(p.count), reach + 1)
 }
 
 // The region start, first set to the locus where the count is 0.
@@ -114,7 +115,10 @@ pub fn highest_of(p: BandPassActivityProfile, s: ActivityProfileState) -> u64
     ensures { (result ≡ highest p s) × (result ≤ 4294967295) }
 {
     if s.active_prob > 0.0 {
-        return u64::from(p.contig_len).min(u64::from(s.pos.0) + u64::from(p.filter_size));
+        return lesser(
+            u64::from(p.contig_len),
+            u64::from(s.pos.0) + u64::from(p.filter_size),
+        );
     }
     u64::from(s.pos.0)
 }

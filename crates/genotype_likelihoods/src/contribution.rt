@@ -22,7 +22,7 @@ pub fn genotype_contribution(qual: u8, is_alt: bool, genotype: usize, ploidy: Pl
     if i == n {
         return non_ref_likelihood + log10_whole(n);
     }
-    let r = reference_likelihood + log10_whole(n.saturating_sub(i));
+    let r = reference_likelihood + log10_whole(numbers::monus(n, i));
     let a = non_ref_likelihood + log10_whole(i);
     log10_sums::approximate_log10_sum_log10_pair(r, a)
 }

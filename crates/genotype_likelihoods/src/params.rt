@@ -45,9 +45,9 @@ impl HaplotypeCallerActivityScoringParams {
         let ploidy = u32::from(self.sample_ploidy.0);
         let min_qual = u32::from(self.min_base_quality_score);
         let deletion_qual = u32::from(self.ref_model_deletion_qual);
-        (1..=Self::MAX_PLOIDY).contains(&ploidy)
-            & (Self::MIN_QUAL..=Self::MAX_QUAL).contains(&min_qual)
-            & (Self::MIN_QUAL..=Self::MAX_QUAL).contains(&deletion_qual)
+        numbers::within_u32(1, ploidy, Self::MAX_PLOIDY)
+            & numbers::within_u32(Self::MIN_QUAL, min_qual, Self::MAX_QUAL)
+            & numbers::within_u32(Self::MIN_QUAL, deletion_qual, Self::MAX_QUAL)
             & numbers::within_f64(
                 Self::MIN_HETEROZYGOSITY,
                 self.snp_heterozygosity,

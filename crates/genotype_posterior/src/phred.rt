@@ -4,8 +4,6 @@ ghost use Rattle.std.specs.Float.Ieee.{to_unsigned};
 ghost use Rattle.lists.specs.Each.{each};
 ghost use Rattle.genotype_posterior.specs.Phred.{max_f, min_f, adjust, pl_of, round_trip, pl_round_trip};
 
-use std::num::saturating_f64_to_u64;
-
 // Rounds every likelihood, counted from the largest, to a whole PL and back.
 #[tactic(auto, unfolding(crate::specs::Phred::pl_round_trip))]
 pub fn genotype_log10_likelihoods_after_java_genotype_pl_roundtrip(gl: &mut [f64])
@@ -50,7 +48,7 @@ fn pl_of(value: f64) -> u32
 fn whole_pl(x: f64) -> u32
     ensures { result ≡ to_unsigned 31 x }
 {
-    saturating_f64_to_u64(x).min(2147483647) as u32
+    numbers::as_u64(x).min(2147483647) as u32
 }
 
 // Rust's f64::max: of a NaN and a number, the number. By hand, as min below: of two zeros of both signs std's may answer either.

@@ -3,7 +3,7 @@ ghost use Rattle.std.specs.Prelude.{◌≡◌};
 ghost use Rattle.log10_sums.specs.Pair.{fast_round_java, jacobian_entry, jacobian, sum_ordered, approximate_log10_sum_log10_pair};
 
 use crate::sums::neg_infinity;
-use std::num::saturating_f64_to_u64;
+use numbers::as_u64;
 
 // log10 of 10 to a + 10 to b, to the table's steps.
 #[tactic(auto, unfolding(crate::specs::Pair::approximate_log10_sum_log10_pair))]
@@ -52,8 +52,8 @@ fn fast_round_java(d: f64) -> u64
     ensures { result ≡ fast_round_java d }
 {
     if d > 0.0 {
-        saturating_f64_to_u64(d + 0.5)
+        as_u64(d + 0.5)
     } else {
-        saturating_f64_to_u64(d - 0.5)
+        as_u64(d - 0.5)
     }
 }

@@ -13,6 +13,7 @@ use activity_profile::{
     ActivityEvidence, ActivityProfileState, BandPassActivityProfile, RefusedCall,
 };
 use add_verdict::{add_verdict, cells_after, first_locus, highest_of};
+use numbers::{greater, lesser, monus};
 
 // Adds the next locus to the profile, and what it spreads to the lent cells. The kernel is the one that the profile was made with, 2F + 1
 // long. Each refusal, in document 01's order, leaves the cells as they were.
@@ -63,10 +64,10 @@ fn super_states(p: BandPassActivityProfile, s: ActivityProfileState) -> u64
         ActivityEvidence::Plain => 1,
         ActivityEvidence::HighQualitySoftClips { clip_bases } => {
             let d = u64::from(p.max_prob_propagation_distance) + u64::from(p.filter_size);
-            let n = u64::from(clip_bases).min(d);
+            let n = lesser(u64::from(clip_bases), d);
             let q = u64::from(s.pos.0);
-            let low = q.saturating_sub(n).max(1);
-            let high = u64::from(p.contig_len).min(q + n);
+            let low = greater(1, monus(q, n));
+            let high = lesser(u64::from(p.contig_len), q + n);
             high - low + 1
         }
     }
@@ -105,10 +106,10 @@ fn window_of(p: BandPassActivityProfile, s: ActivityProfileState) -> Window
     ensures { (result.lo ≡ lo p s) × (result.hi ≡ hi p s) × (result.off ≡ off p s) × (result.held ≡ held p s) }
 {
     let first = u64::from(first_locus(p, s));
-    let lo = lowest_of(p, s).saturating_sub(first);
+    let lo = monus(lowest_of(p, s), first);
     let hi = highest_of(p, s) - first + 1;
     let off = first + lo + u64::from(p.filter_size) - u64::from(s.pos.0);
-    let held = u64::from(p.count).saturating_sub(lo);
+    let held = monus(u64::from(p.count), lo);
     Window {
         lo: lo as usize,
         hi: hi as usize,
@@ -124,7 +125,7 @@ fn lowest_of(p: BandPassActivityProfile, s: ActivityProfileState) -> u64
 {
     let q = u64::from(s.pos.0);
     if s.active_prob > 0.0 {
-        return q.saturating_sub(u64::from(p.filter_size)).max(1);
+        return greater(1, monus(q, u64::from(p.filter_size)));
     }
     q
 }

@@ -10,6 +10,7 @@ ghost use Rattle.activity_profile.specs.Pop.{qualifies, beats, best_cut_site, or
 
 use activity_profile::{ActivityProfileRegion, BandPassActivityProfile, Popped, RefusedCall};
 use genome::Refusal;
+use numbers::{lesser, monus};
 use profile_record::is_broken;
 use region_cells::{find_first_activity_boundary, peak_index};
 
@@ -114,8 +115,8 @@ fn kept_cells(p: BandPassActivityProfile, forced: bool) -> usize
     ensures { result ≡ kept p forced }
 {
     if forced {
-        let reach = u64::from(p.last_input_pos.saturating_sub(p.region_start)) + 1;
-        return u64::from(p.count).min(reach) as usize;
+        let reach = monus(u64::from(p.last_input_pos), u64::from(p.region_start)) + 1;
+        return lesser(u64::from(p.count), reach) as usize;
     }
     p.count as usize
 }

@@ -24,7 +24,7 @@ pub fn is_broken(p: BandPassActivityProfile, cells: usize) -> bool
 fn has_settings_in_range(p: BandPassActivityProfile) -> bool
     ensures { result ≡ settings_in_range p }
 {
-    (1..=genome::MAX_POSITION).contains(&p.contig_len)
+    numbers::within_u32(1, p.contig_len, genome::MAX_POSITION)
         & (p.max_prob_propagation_distance
             <= BandPassActivityProfileParams::MAX_PROPAGATION_DISTANCE)
         & numbers::within_f64(0.0, p.active_prob_threshold, 1.0)
@@ -37,7 +37,7 @@ fn is_placed(p: BandPassActivityProfile) -> bool
 {
     let start = u64::from(p.region_start);
     let last = u64::from(p.last_input_pos);
-    let end = (start + u64::from(p.count)).saturating_sub(1);
+    let end = numbers::monus(start + u64::from(p.count), 1);
     (1 <= start)
         & (start <= last + 1)
         & (1 <= last)

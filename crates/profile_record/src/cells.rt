@@ -38,5 +38,5 @@ fn are_in_range(distance: u32, filter: u32, len: u32) -> bool
 {
     (distance <= BandPassActivityProfileParams::MAX_PROPAGATION_DISTANCE)
         & (filter <= BandPassActivityProfileParams::MAX_FILTER_SIZE)
-        & (1..=genome::MAX_POSITION).contains(&len)
+        & numbers::within_u32(1, len, genome::MAX_POSITION)
 }

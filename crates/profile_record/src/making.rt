@@ -23,7 +23,7 @@ pub fn new(
     ensures narrow_after { narrow.new
         ≡ narrow_after_making contig_len params (length full.old) narrow.old }
 {
-    if !(1..=genome::MAX_POSITION).contains(&contig_len) {
+    if !numbers::within_u32(1, contig_len, genome::MAX_POSITION) {
         return Err(Refusal::Setting);
     }
     let filter_size = params.resolved_filter_and_kernel(full, narrow)?;

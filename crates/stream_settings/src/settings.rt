@@ -120,7 +120,7 @@ impl TryFrom<u32> for StreamField {
 fn ranged(low: u32, value: u32, high: u32) -> Result<u32, Refusal>
     ensures { outcome_of result ≡ cond (between low value high) (answered value) (refused setting_refusal) }
 {
-    if (low..=high).contains(&value) {
+    if numbers::within_u32(low, value, high) {
         return Ok(value);
     }
     Err(Refusal::Setting)

@@ -4,4 +4,4 @@ use Rattle.numbers.specs.Casts.{narrower}
 use Rattle.genotype_posterior.proofs.phred.whole_pl.Goals as goal
 
 pub returns : goal.returns
-returns c = omega (arith, narrower 31 c.args.x (omega arith), c.saturating_f64_to_u64.ensures, c.min.ensures)
+returns c = omega (arith, narrower 31 c.args.x (omega arith), c.as_u64.ensures, c.min.ensures)
