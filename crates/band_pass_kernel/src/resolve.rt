@@ -140,7 +140,8 @@ pub fn kernel_in<'a>(buffer: &'a [f64], filter_size: u32) -> &'a [f64]
 }
 
 // Copies a kernel to the front of a slice, and answers its length. A slice that is too short is left as it is, and the answer is 0:
-// a number and no Option, since the clause `value` promises it.
+// a number and no Option, since the clause `value` promises it. Entry by entry, and not by `copy_from_slice`: that is the C library's
+// memmove, which the static library for makers asks of nobody.
 #[tactic(auto, using(std::proofs::lemmas::Bool::Decides::nat_tests), unfolding(crate::specs::Resolve::copied))]
 pub fn copy_kernel(to: &mut [f64], kernel: &[f64]) -> usize
     ensures value { result ≡ copied_length (length kernel.now) (length to.old) }
@@ -150,6 +151,8 @@ pub fn copy_kernel(to: &mut [f64], kernel: &[f64]) -> usize
         return 0;
     }
     let n = kernel.len();
-    to[..n].copy_from_slice(kernel);
+    for (i, entry) in to[..n].iter_mut().enumerate() {
+        *entry = kernel[i];
+    }
     n
 }
