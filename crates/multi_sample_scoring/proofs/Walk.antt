@@ -1,14 +1,13 @@
 -- One turn and the end of the loops over a set's lengths and piles, and that passing over the empty piles on the way is leaving them out before.
 -- Assumes nothing.
-use mathlib.Core.Path.{◌≡◌, refl, sym, ◌∙◌}
-use Rattle.std.specs.List.{fold, count_by, sum_by, list_any}
-use mathlib.Core.Bool.{Bool, true, false, cond, not, ◌||◌}
-use Rattle.std.proofs.Math.Bool.{or-false}
+use mathlib.Core.Path.{◌≡◌, refl, sym}
+use Rattle.std.specs.List.{fold, sum_by}
+use mathlib.Core.Bool.{Bool, true, false, cond, not}
 use mathlib.Core.List.{List, [], ◌∷◌, map}
 use Prim.Native.Nat.{ℕ, ◌+◌, ◌≤◌, ◌<◌}
 use native.Mathlib.Numerals.{add-one}
 use native.Mathlib.Omega.{arith}
-use lib.Dec.{eqb, ltb}
+use lib.Dec.{eqb}
 use lib.ListN.{length, get_or, take, drop, drop_of_length-le}
 use lib.Seq.{drop-cons}
 use lib.Ieee.{Float}
@@ -17,24 +16,11 @@ use Rattle.lists.specs.Folds.{fold-same}
 use Rattle.lists.specs.Without.{without}
 use Rattle.genotype_likelihoods.specs.declared.HaplotypeCallerActivityScoringParams.{HaplotypeCallerActivityScoringParams}
 use Rattle.activity_scoring.specs.Tables.{from_rounded_by, rounded_by}
-use Rattle.activity_scoring.specs.Score.{max_depth}
-use Rattle.multi_sample_scoring.specs.Sets.{piles, total, is_empty, with_sample, or_too_deep, any_too_deep}
+use Rattle.multi_sample_scoring.specs.Sets.{piles, total, is_empty, with_sample}
 use Rattle.multi_sample_scoring.specs.Passed.{with_length, count_left, with_pile}
 
--- a length that is too deep, among those seen or those to come
-any_from : (b : Bool) (lengths : List ℕ) → fold or_too_deep b lengths ≡ (b || list_any (ltb max_depth) lengths)
-any_from b [] = sym (or-false b)
-any_from b (n ∷ lengths) = any_from (b || ltb max_depth n) lengths ∙ go b
-  where
-    go : (b : Bool) → ((b || ltb max_depth n) || list_any (ltb max_depth) lengths) ≡ (b || (ltb max_depth n || list_any (ltb max_depth) lengths))
-    go true = refl
-    go false = refl
-
-pub any_deep : (lengths : List ℕ) → list_any (λ n. ltb max_depth n) lengths ≡ any_too_deep lengths
-any_deep lengths = sym (any_from false lengths)
-
 -- the lengths that are not 0
-pub counted_left : (lengths : List ℕ) → count_by (λ n. not (eqb n 0)) lengths ≡ count_left lengths
+pub counted_left : (lengths : List ℕ) → sum_by (λ n. cond (not (eqb n 0)) 1 0) lengths ≡ count_left lengths
 counted_left lengths = fold-same (λ k n. k + cond (not (eqb n 0)) 1 0) with_length 0 lengths (λ k n. go k (eqb n 0))
   where
     go : (k : ℕ) (b : Bool) → k + cond (not b) 1 0 ≡ cond b k (k + 1)

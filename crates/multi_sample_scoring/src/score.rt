@@ -5,10 +5,10 @@ ghost use Rattle.std.specs.List.{sum_by};
 ghost use Rattle.genome.specs.Refusals.{outcome_of};
 ghost use Rattle.multi_sample_scoring.specs.Sets.{max_piles, total, set_score_of};
 ghost use Rattle.multi_sample_scoring.specs.Tables.{set_state_by, set_score_by};
-ghost use Rattle.multi_sample_scoring.specs.Passed.{any_by, set_activity_by};
+ghost use Rattle.multi_sample_scoring.specs.Passed.{any_by, count_left, set_activity_by};
 
 use crate::MAX_PILES;
-use crate::lengths::{count_left, is_any_too_deep};
+use crate::lengths::is_any_too_deep;
 use crate::posterior::with_pile;
 use activity_profile::ActivityProfileState;
 use activity_scoring::{Activity, ScoringTables};
@@ -36,7 +36,7 @@ pub fn haplotype_caller_activity_profile_state_multi_sample(
 }
 
 // The same score from tables that `activity_scoring::fill_tables` filled, as for one pile.
-#[tactic(auto, using(crate::proofs::Walk::any_deep, crate::proofs::Walk::summed, std::proofs::lemmas::Bool::Decides::nat_tests), unfolding(crate::specs::Sets::set_score_with))]
+#[tactic(auto, using(crate::proofs::Walk::summed, std::proofs::lemmas::Bool::Decides::nat_tests), unfolding(crate::specs::Sets::set_score_with))]
 pub fn haplotype_caller_activity_profile_state_multi_sample_by_tables(
     contig: u32,
     pos: GenomePosition,
@@ -110,7 +110,7 @@ fn set_activity(
         ≡ set_activity_by tables.entry.contributions.now tables.entry.priors.now params
         set.entry.words.now set.entry.lengths.now }
 {
-    let left = count_left(set.lengths);
+    let left = count_left(set);
     if left == 0 {
         return Activity {
             probability: 0.0,
@@ -153,4 +153,13 @@ fn total_of(lengths: &[u32]) -> usize
     ensures { result ≡ sum_by (λ n. n) lengths.now }
 {
     lengths.iter().map(|n| *n as usize).sum()
+}
+
+// How many piles are not empty, so that they are left. A sum, which takes no branch for a length: by `filter` and `count` a set of
+// many piles is slower (docs/SPEED.md, 'Forms that are slower').
+#[tactic(auto, using(crate::proofs::Walk::counted_left))]
+fn count_left(set: Set) -> usize
+    ensures { result ≡ count_left set.entry.lengths.now }
+{
+    set.lengths.iter().map(|n| usize::from(*n != 0)).sum()
 }
