@@ -91,10 +91,9 @@ fn depth_at(words: &[u64], i: usize) -> usize
 fn run_from(words: &[u64], at: usize, k: usize, n: usize) -> [u32; RUN]
     requires { n ≤ RUN }
 {
-    let round = k.max(1);
     let mut run = [0u32; RUN];
-    for (j, w) in run[..n].iter_mut().enumerate() {
-        *w = number_at(words, at.wrapping_add(j % round));
+    for (w, j) in run[..n].iter_mut().zip((0..k.max(1)).cycle()) {
+        *w = number_at(words, at.wrapping_add(j));
     }
     run
 }
