@@ -7,11 +7,11 @@ use Rattle.std.specs.declared.slice.ChunksExact.{ChunksExact}
 use Rattle.std.specs.Slice.Iter.{chunks_exact_rest, chunks_exact_size, chunks_exact_steps}
 use Rattle.std.proofs.lemmas.Iterator.{YieldsList}
 use Rattle.std.proofs.lemmas.Iterator.Splits.{YieldsList-from_shown_while}
-use Prim.Native.Nat.{ℕ, suc, ◌+◌, ◌*◌, ◌≤◌, ◌<◌}
+use Prim.Native.Nat.{ℕ, suc, ◌+◌, ◌-◌, ◌*◌, ◌≤◌, ◌<◌}
 use native.Mathlib.Omega.{arith}
 use lib.ListN.{length, get_or, drop}
 use lib.Ieee.{Float}
-use Rattle.lists.specs.Loops.{along, first_at}
+use Rattle.lists.specs.Loops.{along, along-turn, first_at}
 use Rattle.lists.specs.Tests.{or_left, or_right}
 use Rattle.activity_profile.specs.Peak.{leads}
 use Rattle.region_cells.specs.Fours.{one_of_four, above_at}
@@ -120,3 +120,9 @@ module _ {A : Type 0} (p : A → Bool) (e : A) where
           let n = none (p a) (p b) (p c) (p d) f in
           let more : 4 * (1 + m) ≡ suc (suc (suc (suc (4 * m)))) = omega arith in
           (omega (arith, h.0), rw (more, n.0, n.1, n.2, n.3) (omega (arith, h.1)))
+
+-- one turn more of the walk: what is left of it, with the leader after that turn, is the whole walk
+pub goes_on : (cells : List Float) (from to i leader next first : ℕ) → i < to → next ≡ leads cells i leader
+    → along (leads cells) i (to - i) leader ≡ along (leads cells) from (to - from) first
+    → along (leads cells) (i + 1) (to - (i + 1)) next ≡ along (leads cells) from (to - from) first
+goes_on cells from to i leader next first h e q = rw e (along-turn (leads cells) i to leader h ∙ q)

@@ -32,6 +32,7 @@ fn after_four(cells: &[f64], i: usize, leader: usize) -> usize
 }
 
 // The leader once the cells from `from` up to `to` had their turns one by one, `first` being the leader before them.
+#[tactic(auto, using(crate::proofs::Fours::goes_on))]
 fn after_turns(cells: &[f64], from: usize, to: usize, first: usize) -> usize
     requires { (first < from) × (to ≤ length cells.now) }
     ensures { (result ≡ along (leads cells.now) from (to - from) first) × (result < max from to) }

@@ -2,13 +2,8 @@
 use mathlib.Core.Path.{◌∙◌, sym}
 use native.Mathlib.Omega.{arith}
 use Rattle.activity_profile.specs.Peak.{leads}
-use Rattle.lists.specs.Loops.{along_end, along-turn}
+use Rattle.lists.specs.Loops.{along_end}
 use Rattle.region_cells.proofs.peak.after_turns.Goals as goal
-
-pub loop-i-preserved : goal.loop-i-preserved
-loop-i-preserved c =
-    let l = c.loop-i in
-    (omega arith, omega arith, rw c.after_turn-leader.ensures.0 (along-turn (leads c.args.cells.now) l.i _ l.leader c.loop-i-test.true ∙ l.invariant.2))
 
 pub returns : goal.returns
 returns c = (sym (along_end (leads _) _ _ _ c.loop-i-test.false) ∙ c.loop-i.invariant.2, omega arith)
